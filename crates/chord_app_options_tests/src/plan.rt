@@ -1,5 +1,6 @@
 //! Plans that are accepted, and each fault of those that are not.
 
+use crate::checks::check;
 use chord_app_plan::{
     PLAN_BYTES, Plan, PlanAsk, PlanFault, PlanNode, Settings, StoreKind, plan_from, read_plan,
 };
@@ -74,7 +75,7 @@ fn reads_two_nodes(alloc: Global) -> Option<bool> {
 
 #[test]
 fn two_nodes(rt: HostRuntime) {
-    assert!(rt; reads_two_nodes(rt.alloc()) == Some(true));
+    check!(&rt; reads_two_nodes(rt.alloc()) == Some(true));
 }
 
 /// A plan with unknown keys, a store of each kind, an upper case identifier, no asks, and numbers
@@ -108,7 +109,7 @@ fn another_plan(rt: HostRuntime) {
         tries: 1000,
         wait_ms: 60_000,
     };
-    assert!(rt; other_plan(rt.alloc()) == Some((settings, true, 0)));
+    check!(&rt; other_plan(rt.alloc()) == Some((settings, true, 0)));
 }
 
 /// Checks that the plan with the first `old` replaced is still the two-node plan.
@@ -122,7 +123,7 @@ fn is_unchanged(alloc: Global, old: &str, new: &str) -> Option<bool> {
 fn a_value_of_a_retrieve_is_not_looked_at(rt: HostRuntime) {
     let asks = "key = \"abc\"\n[[ask]]";
     let with_a_value = "key = \"abc\"\nvalue = 3\n[[ask]]";
-    assert!(rt; is_unchanged(rt.alloc(), asks, with_a_value) == Some(true));
+    check!(&rt; is_unchanged(rt.alloc(), asks, with_a_value) == Some(true));
 }
 
 /// A reader that gives one byte a call.
@@ -149,7 +150,7 @@ fn reads_slowly(alloc: Global) -> Option<bool> {
 
 #[test]
 fn a_plan_of_a_slow_reader(rt: HostRuntime) {
-    assert!(rt; reads_slowly(rt.alloc()) == Some(true));
+    check!(&rt; reads_slowly(rt.alloc()) == Some(true));
 }
 
 /// The path of a file that no other run has.
@@ -184,7 +185,7 @@ fn reads_a_file(rt: &HostRuntime) -> Option<bool> {
 
 #[test]
 fn a_plan_in_a_file(rt: HostRuntime) {
-    assert!(rt; reads_a_file(&rt) == Some(true));
+    check!(&rt; reads_a_file(&rt) == Some(true));
 }
 
 /// The whole file is looked at.
@@ -194,7 +195,7 @@ fn a_file_with_a_fault_at_its_end(rt: HostRuntime) {
     let document = format!(in alloc; "{TWO_NODES}[[ask]]\n").expect(&rt, "memory for a plan");
     let read = written_and_read(&rt, document.as_str()).expect(&rt, "a file");
     let text = "fault plan\nask 3: caller: missing";
-    assert!(rt; refused_with(alloc, read, text) == Some(true));
+    check!(&rt; refused_with(alloc, read, text) == Some(true));
 }
 
 /// A reader that fails.
@@ -219,10 +220,10 @@ fn files_that_cannot_be_read(rt: HostRuntime) {
     let alloc = rt.alloc();
     let failed = plan_from(alloc, "a/plan", Failing);
     let text = "fault plan\na/plan: timed out";
-    assert!(rt; refused_with(alloc, failed, text) == Some(true));
+    check!(&rt; refused_with(alloc, failed, text) == Some(true));
     let missing = read_plan(&rt, alloc, "no/such/plan.toml");
     let text = "fault plan\nno/such/plan.toml: entity not found";
-    assert!(rt; refused_with(alloc, missing, text) == Some(true));
+    check!(&rt; refused_with(alloc, missing, text) == Some(true));
 }
 
 /// The text of the fault for which a plan is refused.
@@ -329,7 +330,7 @@ const FAULTS_OF_TABLES: &[(&str, &str, &str)] = &[
 fn faults_of_tables(rt: HostRuntime) {
     for (rest, nodes, wanted) in FAULTS_OF_TABLES {
         let refused = is_no_plan(rt.alloc(), rest, nodes, wanted);
-        assert!(rt; refused == Some(true), "{rest}");
+        check!(&rt; refused == Some(true), rest);
     }
 }
 
@@ -353,7 +354,7 @@ fn spare_stores_have_a_kind(rt: HostRuntime) {
         ("spare = \"noted\"\n", StoreKind::Noted),
         ("spare = \"capped\"\nlimit = 7\n", StoreKind::Capped(7)),
     ] {
-        assert!(rt; spare_of(rt.alloc(), line) == Some(kind), "{line}");
+        check!(&rt; spare_of(rt.alloc(), line) == Some(kind), line);
     }
 }
 
@@ -395,16 +396,16 @@ fn sizes_with(
 #[test]
 fn settings_of_a_server(rt: HostRuntime) {
     let alloc = rt.alloc();
-    assert!(rt; sizes_with(alloc, None, None) == Some((2, 1)), "the plan's");
-    assert!(rt;
+    check!(&rt; sizes_with(alloc, None, None) == Some((2, 1)), "the plan's");
+    check!(&rt;
         sizes_with(alloc, Some(4_096), None) == Some((4_096, 1)),
         "more nodes"
     );
-    assert!(rt;
+    check!(&rt;
         sizes_with(alloc, None, Some(9)) == Some((2, 9)),
         "more callers"
     );
-    assert!(rt; sizes_with(alloc, Some(5), Some(6)) == Some((5, 6)), "both");
+    check!(&rt; sizes_with(alloc, Some(5), Some(6)) == Some((5, 6)), "both");
 }
 
 const KEY: &str = "key = \"abc\"";
@@ -470,7 +471,7 @@ fn limits_of_requests(rt: HostRuntime) {
         ),
     ] {
         let limit = is_limit(rt.alloc(), name, most, text);
-        assert!(rt; limit == Some((true, true)), "{name}");
+        check!(&rt; limit == Some((true, true)), name);
     }
 }
 
@@ -492,9 +493,9 @@ fn begins_changed(alloc: Global, old: &str, new: &str, wanted: &str) -> Option<b
 fn faults_of_documents(rt: HostRuntime) {
     let alloc = rt.alloc();
     let wanted = "fault plan\nline 4: ";
-    assert!(rt; begins_changed(alloc, "tries = 100", "tries =", wanted) == Some(true));
+    check!(&rt; begins_changed(alloc, "tries = 100", "tries =", wanted) == Some(true));
     let document = b"slots = 2\nname = \"\xff\"\n";
-    assert!(rt; begins(alloc, document, "fault plan\nline 2: ") == Some(true));
+    check!(&rt; begins(alloc, document, "fault plan\nline 2: ") == Some(true));
 }
 
 /// Gives whether a document of the most bytes is accepted, and whether one with a byte more is
@@ -511,7 +512,7 @@ fn longest(alloc: Global) -> Option<(bool, bool)> {
 /// A document may have the most bytes, but not one more.
 #[test]
 fn lengths_of_documents(rt: HostRuntime) {
-    assert!(rt; longest(rt.alloc()) == Some((true, true)));
+    check!(&rt; longest(rt.alloc()) == Some((true, true)));
 }
 
 /// Gives whether the two-node plan is read from a reader of the most bytes, and whether one with a
@@ -531,5 +532,5 @@ fn longest_read(alloc: Global) -> Option<(bool, bool)> {
 /// A reader may give the most bytes, but not one more.
 #[test]
 fn a_file_that_is_too_long(rt: HostRuntime) {
-    assert!(rt; longest_read(rt.alloc()) == Some((true, true)));
+    check!(&rt; longest_read(rt.alloc()) == Some((true, true)));
 }

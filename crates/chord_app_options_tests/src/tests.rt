@@ -1,5 +1,6 @@
 //! The command lines.
 
+use crate::checks::check;
 use crate::tests::lines::{finish_of, has_plan, names_stores_on, prints, prints_usage};
 use chord_app_options::names_stores;
 use chord_app_text::Finish;
@@ -20,13 +21,13 @@ const NO_COMMAND: &str =
 /// A command line without a command is refused, with this text and status.
 #[test]
 fn a_command_is_wanted(rt: HostRuntime) {
-    assert!(rt; prints(rt.alloc(), "chord", NO_COMMAND) == Some((true, 2)));
+    check!(&rt; prints(rt.alloc(), "chord", NO_COMMAND) == Some((true, 2)));
 }
 
 #[test]
 fn the_version(rt: HostRuntime) {
     let printed = prints(rt.alloc(), "chord --version", "chord 0.1.0\n");
-    assert!(rt; printed == Some((true, 0)));
+    check!(&rt; printed == Some((true, 0)));
 }
 
 /// The text and status if the word names no stores.
@@ -36,7 +37,7 @@ fn faults_of_words(rt: HostRuntime) {
     let fault =
         "error: invalid value 'x' for '--stores <WORD>': 1 to 64 of the letters t, l, n and c";
     let printed = prints_usage(rt.alloc(), line, fault, "chord world [OPTIONS]");
-    assert!(rt; printed == Some((true, 2)));
+    check!(&rt; printed == Some((true, 2)));
 }
 
 /// A letter for each of 64 stores.
@@ -48,19 +49,19 @@ const SIXTY_FIVE: &str = "tttttttttttttttttttttttttttttttttttttttttttttttttttttt
 #[test]
 fn words_for_stores(rt: HostRuntime) {
     for word in ["t", "tltltltl", "lnct", SIXTY_FOUR] {
-        assert!(rt; names_stores(word), "{word}");
+        check!(&rt; names_stores(word), word);
     }
     for word in ["", "tx", "T", SIXTY_FIVE] {
-        assert!(rt; !names_stores(word), "{word}");
+        check!(&rt; !names_stores(word), word);
     }
 }
 
 #[test]
 fn stores_of_a_world(rt: HostRuntime) {
     let named = names_stores_on(rt.alloc(), "chord world --stores nc", "nc");
-    assert!(rt; named == Some(true), "the stores are those of the line");
+    check!(&rt; named == Some(true), "the stores are those of the line");
     let named = names_stores_on(rt.alloc(), "chord world", "tltltltl");
-    assert!(rt;
+    check!(&rt;
         named == Some(true),
         "a line that names none has four trees and four lists in turn"
     );
@@ -73,17 +74,17 @@ fn the_path_of_a_plan(rt: HostRuntime) {
         "chord serve --plan p.toml --port 0 --stay",
     ] {
         let is_its = has_plan(rt.alloc(), line, "p.toml");
-        assert!(rt; is_its == Some(true), "{line}");
+        check!(&rt; is_its == Some(true), line);
     }
 }
 
 #[test]
 fn faults_and_help_are_printed(rt: HostRuntime) {
     let refused = finish_of(&rt, "chord serve");
-    assert!(rt;
+    check!(&rt;
         refused == Some(Ok(Finish::BadCommandLine)),
         "a plan is wanted"
     );
     let help = finish_of(&rt, "chord serve --help");
-    assert!(rt; help == Some(Ok(Finish::Done)), "help is no fault");
+    check!(&rt; help == Some(Ok(Finish::Done)), "help is no fault");
 }

@@ -2,6 +2,7 @@
 //! schedule.
 ghost use Rattle.std.specs.Prelude.{◌≡◌, ◌≤◌, []};
 
+use crate::checks::check;
 use chord_caller::SubmitFault;
 use chord_ident::Id;
 use chord_links::Peer;
@@ -152,7 +153,7 @@ pub fn founded<J: Naming, S: EntryStore, R: Abort + Wait>(
 {
     let ring = parts.assemble::<J, S>().expect(rt, "memory for a ring");
     let is_created = succeeds(ring.create(rt, Id::new(A), store));
-    assert!(rt; is_created, "a ring without a node creates one");
+    check!(rt; is_created, "a ring without a node creates one");
     ring
 }
 

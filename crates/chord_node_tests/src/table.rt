@@ -6,6 +6,7 @@ ghost use Rattle.chord_model.specs.declared.message.Message.TheVariants.{Ask as 
 ghost use Rattle.chord_node.specs.Asked.{AskSteps};
 ghost use Rattle.chord_node.specs.declared.asks.answered.Answered.TheVariants.{Told as ToldAnswer};
 
+use crate::checks::check;
 use chord_caller::{Ask, CallerCore, Heard, Told};
 use chord_ident::Id;
 use chord_links::{Links, Peer};
@@ -27,14 +28,14 @@ fn a_caller_is_answered(rt: HostRuntime) -> Result<(), Fail> {
     let parts = Registrar::open(alloc, 2, 1)?;
     let store: Box<dyn EntryStore + Send> = Box::new(alloc, CappedStore::new(alloc, 4))?;
     let heard = is_answered_from_a_box::<Brand>(alloc, parts, store)?;
-    assert!(rt; heard == FRESH_AND_ADDED);
+    check!(&rt; heard == FRESH_AND_ADDED);
     Ok(())
 }
 
 #[test]
 fn a_call_comes_as_it_was_sent(rt: HostRuntime) -> Result<(), Fail> {
     let parts = Registrar::open(rt.alloc(), 2, 1)?;
-    assert!(rt; comes_as_it_was_sent::<Brand>(rt.alloc(), parts)?);
+    check!(&rt; comes_as_it_was_sent::<Brand>(rt.alloc(), parts)?);
     Ok(())
 }
 
@@ -42,7 +43,7 @@ fn a_call_comes_as_it_was_sent(rt: HostRuntime) -> Result<(), Fail> {
 fn a_node_enters_later(rt: HostRuntime) -> Result<(), Fail> {
     let parts = Registrar::open(rt.alloc(), 2, 1)?;
     let comes = enters_later::<Brand>(rt.alloc(), parts)?;
-    assert!(rt;
+    check!(&rt;
         comes,
         "a call comes to a node that was admitted beside another"
     );
@@ -168,7 +169,7 @@ fn added_replies(core: &CallerCore) -> usize {
 }
 
 /// How the first call of a caller went.
-#[derive(Clone, Copy, Debug, PartialEq, Eq)]
+#[derive(Clone, Copy, PartialEq, Eq)]
 struct Exchange {
     /// The call that was sent is the first one, to insert `x` under `abc`.
     is_first: bool,

@@ -3,6 +3,7 @@
 mod growths;
 mod sessions;
 
+use crate::checks::check;
 use chord_map::{Bytes, Reply, Request, Values};
 use chord_wire::{
     Answer, Answers, FaultCode, Frames, WireFault, WireRequest, is_writable, laws, write_fault,
@@ -189,7 +190,7 @@ fn is_written(alloc: Global, version: u8, frame: &[u8]) -> Option<bool> {
 fn writes_requests(rt: HostRuntime) {
     for (version, frame) in [(1, INSERT.as_slice()), (2, &INSERT_2)] {
         let written = is_written(rt.alloc(), version, frame);
-        assert!(rt; written == Some(true), "version {version}: {written:?}");
+        assert!(rt; written == Some(true), "version {version}");
     }
 }
 
@@ -217,9 +218,9 @@ fn is_reply_written(
 fn writes_replies(rt: HostRuntime) {
     let alloc = rt.alloc();
     let added = is_reply_written(alloc, 1, Ok(Reply::Added), &ADDED);
-    assert!(rt; added == Some(true), "Added is written as its frame");
+    check!(&rt; added == Some(true), "Added is written as its frame");
     let one_value = is_reply_written(alloc, 2, values(alloc, &[b"x"]), &ONE_VALUE);
-    assert!(rt; one_value == Some(true), "a set is written as its frame");
+    check!(&rt; one_value == Some(true), "a set is written as its frame");
 }
 
 /// Whether a fault is written as this frame.
@@ -233,7 +234,7 @@ fn is_fault_written(alloc: Global, number: u64, code: FaultCode, frame: &[u8]) -
 #[test]
 fn writes_faults(rt: HostRuntime) {
     let wanted = [0, 0, 0, 0x0b, 1, 0xff, 0, 0, 0, 0, 0, 0, 0, 0, 2];
-    assert!(rt; is_fault_written(rt.alloc(), 0, FaultCode::BadVersion, &wanted) == Some(true));
+    check!(&rt; is_fault_written(rt.alloc(), 0, FaultCode::BadVersion, &wanted) == Some(true));
 }
 
 /// Whether the reply has a frame.
@@ -249,7 +250,7 @@ fn tells_what_has_a_frame(rt: HostRuntime) {
     let alloc = rt.alloc();
     let long = [7u8; 4097];
     let absent = has_frame(Ok(Reply::Absent));
-    assert!(rt; absent == Some(true), "a reply without values has a frame");
+    check!(&rt; absent == Some(true), "a reply without values has a frame");
     for (all, has) in [
         ([].as_slice(), true),
         (&[&long[..4096]], true),
@@ -258,9 +259,9 @@ fn tells_what_has_a_frame(rt: HostRuntime) {
         (&[b"y", b"x"], false),
     ] {
         let found = has_frame(values(alloc, all));
-        assert!(rt;
+        check!(&rt;
             found == Some(has),
-            "values of at most 4,096 bytes, which rise: {all:?}"
+            "values of at most 4,096 bytes, which rise"
         );
     }
 }
@@ -274,7 +275,7 @@ fn reads_insert(alloc: Global, bytes: &[u8], version: u8) -> Option<bool> {
 fn reads_whole_requests(rt: HostRuntime) {
     for (version, frame) in [(1, INSERT.as_slice()), (2, &INSERT_2)] {
         let read = reads_insert(rt.alloc(), frame, version);
-        assert!(rt; read == Some(true), "version {version}: {read:?}");
+        assert!(rt; read == Some(true), "version {version}");
     }
 }
 
@@ -284,7 +285,7 @@ fn next_is_insert(alloc: Global, frames: &mut Frames, version: u8) -> Option<boo
 }
 
 /// How a stream takes a frame that is fed byte by byte.
-#[derive(Clone, Copy, Debug, PartialEq, Eq)]
+#[derive(Clone, Copy, PartialEq, Eq)]
 struct InPieces {
     /// Whether it stored each byte and gave no request before the last.
     are_kept: bool,
@@ -316,7 +317,7 @@ fn reads_requests_in_any_pieces(rt: HostRuntime) {
     };
     for (version, frame) in [(1, INSERT.as_slice()), (2, &INSERT_2)] {
         let read = read_pieces(rt.alloc(), frame, version);
-        assert!(rt; read == whole, "version {version}: {read:?}");
+        assert!(rt; read == whole, "version {version}");
     }
 }
 
@@ -337,10 +338,10 @@ fn reads_answers_in_any_pieces(rt: HostRuntime) {
     let is_first = gives(&mut answers, 1, Ok(Reply::Added));
     let left = answers.left();
     drop(answers);
-    assert!(rt; are_fed, "there is memory for three answers");
-    assert!(rt; before == 60, "all bytes of three answers are kept");
-    assert!(rt; is_first == Some(true), "the first answer is the first fed");
-    assert!(rt; left == 45, "the first answer is consumed");
+    check!(&rt; are_fed, "there is memory for three answers");
+    check!(&rt; before == 60, "all bytes of three answers are kept");
+    check!(&rt; is_first == Some(true), "the first answer is the first fed");
+    check!(&rt; left == 45, "the first answer is consumed");
 }
 
 #[test]
@@ -354,13 +355,13 @@ fn reads_values_in_any_pieces(rt: HostRuntime) {
     let third = gives(&mut answers, 2, values(alloc, &[b"x", b"y"]));
     let (end, is_end) = (answers.left(), is_nothing(answers.next()));
     drop(answers);
-    assert!(rt; are_fed, "there is memory for three answers");
-    assert!(rt; first == Some(true), "the first answer is Added");
-    assert!(rt; second == Some(true), "the second has one value");
-    assert!(rt; left == 24, "the third is left then");
-    assert!(rt; third == Some(true), "the third has two values");
-    assert!(rt; end == 0, "no byte is left at the end");
-    assert!(rt; is_end, "nor is an answer");
+    check!(&rt; are_fed, "there is memory for three answers");
+    check!(&rt; first == Some(true), "the first answer is Added");
+    check!(&rt; second == Some(true), "the second has one value");
+    check!(&rt; left == 24, "the third is left then");
+    check!(&rt; third == Some(true), "the third has two values");
+    check!(&rt; end == 0, "no byte is left at the end");
+    check!(&rt; is_end, "nor is an answer");
 }
 
 // Bytes, and the code and the number of their fault.
@@ -638,10 +639,10 @@ fn read_back_longest(alloc: Global) -> Option<Longest> {
 #[test]
 fn the_longest_request_is_read_back(rt: HostRuntime) {
     let longest = read_back_longest(rt.alloc()).expect(&rt, "memory for the longest request");
-    assert!(rt; longest.len == 4376, "the longest frame has 4,376 bytes");
-    assert!(rt; longest.number == 17, "it has its number");
-    assert!(rt; longest.floor == 1, "it has its floor");
-    assert!(rt; longest.is_same, "it is the request that was written");
+    check!(&rt; longest.len == 4376, "the longest frame has 4,376 bytes");
+    check!(&rt; longest.number == 17, "it has its number");
+    check!(&rt; longest.floor == 1, "it has its floor");
+    check!(&rt; longest.is_same, "it is the request that was written");
 }
 
 #[test]
@@ -675,12 +676,12 @@ const TEXTS: [(FaultCode, &str); 6] = [
 fn faults_say_what_is_wrong(rt: HostRuntime) {
     let alloc = rt.alloc();
     for (code, wanted) in &TEXTS {
-        assert!(rt; says(alloc, code, wanted) == Some(true));
+        check!(&rt; says(alloc, code, wanted) == Some(true));
     }
     let fault = WireFault {
         code: FaultCode::Trailing,
         number: 7,
     };
     let wanted = "request 7: bytes behind the last field";
-    assert!(rt; says(alloc, &fault, wanted) == Some(true));
+    check!(&rt; says(alloc, &fault, wanted) == Some(true));
 }

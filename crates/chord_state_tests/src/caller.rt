@@ -1,6 +1,7 @@
 //! Worked values.
 ghost use Rattle.std.specs.Prelude.{◌≤◌};
 
+use crate::checks::check;
 use chord_caller::{Ask, CallerCore, Heard, Note, ResendFault, SubmitFault, TakeFault, Told};
 use chord_map::{Done, Reply, Request, RequestFault, SharedValues};
 use std::alloc::{AllocError, Global};
@@ -87,13 +88,13 @@ fn submits_one(alloc: Global) -> (Option<u64>, bool, Option<u64>, Option<SubmitF
 #[test]
 fn a_window_of_one(rt: HostRuntime) {
     let one = (None, true, Some(1), Some(SubmitFault::WindowFull));
-    assert!(rt; submits_one(rt.alloc()) == one);
+    check!(&rt; submits_one(rt.alloc()) == one);
 }
 
 #[test]
 fn a_caller_has_its_number(rt: HostRuntime) {
     let core = CallerCore::new(rt.alloc(), 7, 1);
-    assert!(rt; core.number() == 7);
+    check!(&rt; core.number() == 7);
 }
 
 /// Why no call is sent again before one is submitted.
@@ -116,7 +117,7 @@ fn goes_out_again(alloc: Global) -> Option<bool> {
 fn a_pending_request_goes_out_again(rt: HostRuntime) {
     let idle = idle(rt.alloc());
     let again = goes_out_again(rt.alloc());
-    assert!(rt; (idle, again) == (Some(ResendFault::Idle), Some(true)));
+    check!(&rt; (idle, again) == (Some(ResendFault::Idle), Some(true)));
 }
 
 /// How a caller with one pending request judges two replies
@@ -133,7 +134,7 @@ fn hears_others(alloc: Global) -> Option<(Option<TakeFault>, Option<TakeFault>, 
 #[test]
 fn a_foreign_reply_is_not_taken(rt: HostRuntime) {
     let foreign = Some(TakeFault::Foreign);
-    assert!(rt; hears_others(rt.alloc()) == Some((foreign, foreign, true)));
+    check!(&rt; hears_others(rt.alloc()) == Some((foreign, foreign, true)));
 }
 
 /// How a caller judges a reply that comes twice, how many replies it took, and its floor.
@@ -149,7 +150,7 @@ fn takes_twice(alloc: Global) -> Option<([Option<Heard>; 2], usize, u64)> {
 #[test]
 fn a_reply_is_taken_once(rt: HostRuntime) {
     let once = ([Some(Heard::Fresh), Some(Heard::Known)], 1, 1);
-    assert!(rt; takes_twice(rt.alloc()) == Some(once));
+    check!(&rt; takes_twice(rt.alloc()) == Some(once));
 }
 
 /// A caller that submitted two requests and took the reply to the second, and how it judged that.
@@ -176,7 +177,7 @@ fn numbers(alloc: Global) -> Option<(Option<Heard>, [bool; 4])> {
 #[test]
 fn two_numbers_were_submitted(rt: HostRuntime) {
     let two = (Some(Heard::Fresh), [false, true, true, false]);
-    assert!(rt; numbers(rt.alloc()) == Some(two));
+    check!(&rt; numbers(rt.alloc()) == Some(two));
 }
 
 /// The caller and the number of call 2, and whether it is the insert under `b`, answered Added.
@@ -199,7 +200,7 @@ fn finds_the_second(alloc: Global) -> Option<(bool, bool, Option<(u64, u64, bool
 #[test]
 fn a_taken_call_is_found_by_its_number(rt: HostRuntime) {
     let second = (true, true, Some((7, 2, true)));
-    assert!(rt; finds_the_second(rt.alloc()) == Some(second));
+    check!(&rt; finds_the_second(rt.alloc()) == Some(second));
 }
 
 /// Why an empty key is refused, and the number of the next call.
@@ -214,7 +215,7 @@ fn after_an_empty_key(alloc: Global) -> (Option<SubmitFault>, Result<u64, Submit
 #[test]
 fn a_refused_request_takes_no_number(rt: HostRuntime) {
     let empty = Some(SubmitFault::Bad(RequestFault::KeyEmpty));
-    assert!(rt; after_an_empty_key(rt.alloc()) == (empty, Ok(1)));
+    check!(&rt; after_an_empty_key(rt.alloc()) == (empty, Ok(1)));
 }
 
 /// How a caller judges a set of values as reply to its insert, and whether it still waits.
@@ -234,7 +235,7 @@ fn hears_values(alloc: Global) -> Option<(Option<TakeFault>, bool)> {
 #[test]
 fn a_reply_of_another_kind_is_not_taken(rt: HostRuntime) {
     let foreign = (Some(TakeFault::Foreign), true);
-    assert!(rt; hears_values(rt.alloc()) == Some(foreign));
+    check!(&rt; hears_values(rt.alloc()) == Some(foreign));
 }
 
 /// Why the caller would refuse an insert under `c`, asked beforehand.
@@ -283,8 +284,8 @@ fn after_the_first(
 #[test]
 fn a_window_of_two(rt: HostRuntime) {
     let (fresh, full) = (Some(Heard::Fresh), Some(SubmitFault::WindowFull));
-    assert!(rt; before_the_first(rt.alloc()) == Some((fresh, full, full)));
-    assert!(rt; after_the_first(rt.alloc()) == Some((full, fresh, None, true)));
+    check!(&rt; before_the_first(rt.alloc()) == Some((fresh, full, full)));
+    check!(&rt; after_the_first(rt.alloc()) == Some((full, fresh, None, true)));
 }
 
 /// The insert of x under this key by this caller, with its reply.
@@ -395,15 +396,15 @@ fn notes_are_shown_and_met(rt: HostRuntime) {
     let was_told = was_told_of_both(&rt, alloc, &core);
     let has_its_own = has_its_own(&rt, alloc, &core);
     drop(core);
-    assert!(rt;
+    check!(&rt;
         shows_both,
         "a note has all calls that its caller knows, by number"
     );
-    assert!(rt;
+    check!(&rt;
         was_told,
         "who meets a note twice learns each of its calls once"
     );
-    assert!(rt;
+    check!(&rt;
         has_its_own,
         "what a caller is told of is not among the replies that it took"
     );

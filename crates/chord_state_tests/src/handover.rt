@@ -25,7 +25,7 @@ pub fn empty_payload(alloc: Global) -> Payload {
 }
 
 /// Which part it is, and what it has.
-#[derive(Clone, Copy, Debug, PartialEq, Eq)]
+#[derive(Clone, Copy, PartialEq, Eq)]
 pub struct PartShown {
     pub ticket: Ticket,
     pub place: u64,

@@ -6,6 +6,8 @@
 #[cfg(test)]
 mod caller;
 #[cfg(test)]
+mod checks;
+#[cfg(test)]
 mod circle;
 #[cfg(test)]
 mod handover;

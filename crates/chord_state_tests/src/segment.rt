@@ -3,6 +3,7 @@
 mod growths;
 mod in_place;
 
+use crate::checks::check;
 use chord_ident::{Id, Span};
 use chord_map::{Done, Reply, Request};
 use chord_segment::{CutFault, Past, Segment, SegmentJoinFault, number_of, raise_mark};
@@ -69,7 +70,7 @@ pub fn one(alloc: Global, span: Span, key: &[u8]) -> Result<Segment, AllocError>
 }
 
 /// What a segment says of a call.
-#[derive(Clone, Copy, Debug, PartialEq, Eq)]
+#[derive(Clone, Copy, PartialEq, Eq)]
 enum Found {
     New,
     /// The call is at or below its caller's floor.
@@ -86,7 +87,7 @@ fn find(segment: &Segment, caller: u64, number: u64) -> Found {
 }
 
 /// What a segment has of the callers 0 and 1: their floors, and what it says of their calls.
-#[derive(Clone, Copy, Debug, PartialEq, Eq)]
+#[derive(Clone, Copy, PartialEq, Eq)]
 struct Shape {
     span: Span,
     floor_of_0: u64,
@@ -192,16 +193,16 @@ fn what_is_kept_goes_by_key(rt: HostRuntime) -> Result<(), Fail> {
         f_of_1: Found::New,
         ..WHOLE
     };
-    assert!(rt;
+    check!(&rt;
         found.whole == WHOLE,
         "a segment has the floors and the calls that it was given"
     );
-    assert!(rt;
+    check!(&rt;
         found.before == before,
         "the first part has all floors, and its keys' calls"
     );
-    assert!(rt; found.behind == behind, "so has the second part");
-    assert!(rt;
+    check!(&rt; found.behind == behind, "so has the second part");
+    check!(&rt;
         found.joined == Some(WHOLE),
         "the parts joined are the whole again"
     );
@@ -220,15 +221,15 @@ fn callers_are_listed(rt: HostRuntime) -> Result<(), Fail> {
     let segment = with_floors(rt.alloc())?;
     let (first, second, third) = (entry(&segment, 0), entry(&segment, 1), entry(&segment, 2));
     drop(segment);
-    assert!(rt;
+    check!(&rt;
         first == Some((0, 2, [Some(3), Some(4)])),
         "caller 0 has the floor 2 and its calls 3 and 4"
     );
-    assert!(rt;
+    check!(&rt;
         second == Some((1, 1, [Some(2), None])),
         "caller 1 has the floor 1 and its call 2"
     );
-    assert!(rt; third.is_none(), "there are no other callers");
+    check!(&rt; third.is_none(), "there are no other callers");
     Ok(())
 }
 
@@ -256,7 +257,7 @@ fn a_copy_is_the_same(rt: HostRuntime) -> Result<(), Fail> {
     let whole = one(rt.alloc(), span(A, A), b"abc")?;
     let is_copied = is_copied(&whole);
     drop(whole);
-    assert!(rt; is_copied == Some(true));
+    check!(&rt; is_copied == Some(true));
     Ok(())
 }
 
@@ -274,7 +275,7 @@ fn others_are_not_the_same(rt: HostRuntime) -> Result<(), Fail> {
     let other = equals(&whole, one(rt.alloc(), span(A, A), b"abd").ok());
     let empty = equals(&whole, Some(Segment::empty(rt.alloc(), span(A, A))));
     drop(whole);
-    assert!(rt; (other, empty) == (Some(false), Some(false)));
+    check!(&rt; (other, empty) == (Some(false), Some(false)));
     Ok(())
 }
 
@@ -292,7 +293,7 @@ fn unjoined(alloc: Global) -> Option<(SegmentJoinFault, bool, bool)> {
 
 #[test]
 fn neighbours_keep_a_call_once(rt: HostRuntime) {
-    assert!(rt; unjoined(rt.alloc()) == Some((SegmentJoinFault::Twice, true, true)));
+    check!(&rt; unjoined(rt.alloc()) == Some((SegmentJoinFault::Twice, true, true)));
 }
 
 /// Why an empty segment of (A, B] cannot be cut at this point.
@@ -321,9 +322,9 @@ fn refused_cuts_and_joins(rt: HostRuntime) {
         cut_fault(alloc, B),
         cut_fault(alloc, C),
     );
-    assert!(rt; cuts == (outside, outside, outside));
+    check!(&rt; cuts == (outside, outside, outside));
     let joins = (join_fault(alloc, span(C, A)), join_fault(alloc, span(B, B)));
-    assert!(rt;
+    check!(&rt;
         joins
             == (
                 Some(SegmentJoinFault::NotAdjacent),
@@ -372,7 +373,7 @@ fn raised(mut segment: Segment, alloc: Global) -> (bool, bool, Option<(u64, u64)
 #[test]
 fn floors_drop_what_was_taken(rt: HostRuntime) -> Result<(), Fail> {
     let segment = one(rt.alloc(), span(A, A), b"abc")?;
-    assert!(rt; raised(segment, rt.alloc()) == (true, true, Some((2, 2))));
+    check!(&rt; raised(segment, rt.alloc()) == (true, true, Some((2, 2))));
     Ok(())
 }
 
@@ -493,20 +494,20 @@ fn keep_apart(segment: Segment, alloc: Global) -> Apart {
 #[test]
 fn callers_are_kept_apart(rt: HostRuntime) -> Result<(), Fail> {
     let apart = keep_apart(kept_calls(rt.alloc(), CALLS)?, rt.alloc());
-    assert!(rt;
+    check!(&rt;
         apart.lost == None,
         "each call is found under its caller and number"
     );
-    assert!(rt; apart.invented == None, "no other call is found");
-    assert!(rt;
+    check!(&rt; apart.invented == None, "no other call is found");
+    check!(&rt;
         apart.equals_another_order == Some(true),
         "calls of several callers have no order among them"
     );
-    assert!(rt;
+    check!(&rt;
         apart.equals_another_caller == Some(false),
         "a call is its caller's alone"
     );
-    assert!(rt; apart.equals_fewer == Some(false), "each call counts");
+    check!(&rt; apart.equals_fewer == Some(false), "each call counts");
     Ok(())
 }
 
@@ -525,7 +526,7 @@ fn a_readied_caller_is_not_seen(rt: HostRuntime) -> Result<(), Fail> {
     let before = kept_of(rt.alloc(), span(A, A), &[5, 9], b"abc")?;
     let is_unseen = is_readied_unseen(&before);
     drop(before);
-    assert!(rt; is_unseen == Some(true));
+    check!(&rt; is_unseen == Some(true));
     Ok(())
 }
 
@@ -543,7 +544,7 @@ fn keeps_all_four(alloc: Global) -> Option<bool> {
 
 #[test]
 fn joined_callers_keep_both_parts(rt: HostRuntime) {
-    assert!(rt; keeps_all_four(rt.alloc()) == Some(true));
+    check!(&rt; keeps_all_four(rt.alloc()) == Some(true));
 }
 
 #[test]
@@ -558,7 +559,7 @@ fn marks_are_raised(rt: HostRuntime) -> Result<(), Fail> {
         number_of(&marks, 9),
     );
     drop(marks);
-    assert!(rt;
+    check!(&rt;
         numbers == (2, 1, 0),
         "a mark is not lowered, and an owner without one has 0"
     );
@@ -567,7 +568,7 @@ fn marks_are_raised(rt: HostRuntime) -> Result<(), Fail> {
 
 /// The number of the call that a copy of an entry keeps inside a span, if it is one call, and
 /// whether the entry and the copy keep a call in common before and after the others were dropped.
-#[derive(Clone, Copy, Debug, PartialEq, Eq)]
+#[derive(Clone, Copy, PartialEq, Eq)]
 struct Inside {
     number: Option<u64>,
     before: bool,
@@ -614,9 +615,9 @@ fn a_callers_calls_go_by_key(rt: HostRuntime) -> Result<(), Fail> {
         after: true,
         apart: true,
     };
-    assert!(rt;
+    check!(&rt;
         inside == Some(wanted),
-        "its call under f alone: {inside:?}"
+        "its call under f alone"
     );
     Ok(())
 }

@@ -1,6 +1,7 @@
 //! Tests that every kind of store passes.
 ghost use Rattle.std.specs.Prelude.{◌≡◌, [], IfOk, OnErr};
 
+use crate::checks::check;
 use chord_ident::{Id, Span};
 use chord_map::{Bytes, Pair, PairList, Values};
 use chord_store::{
@@ -36,7 +37,7 @@ fn insert<S: EntryStore>(
     let answer = store.insert(Id::of_bytes(key_bytes.as_slice()), &key_bytes, &value_bytes);
     drop(key_bytes);
     drop(value_bytes);
-    assert!(rt; answer == expected);
+    check!(rt; answer == expected);
 }
 
 // Removes the value from under the key, and answers whether it was there.
@@ -100,33 +101,33 @@ fn are_from_one(alloc: Global, values: Values) -> bool {
 // A full set of 1,000 values takes no more, and takes one again after a remove.
 fn fill_a_set<S: EntryStore>(rt: &impl Abort, alloc: Global, store: S) {
     let mut store = store;
-    assert!(rt;
+    check!(rt;
         fill(rt, alloc, &mut store).is_some(),
         "there is memory for the values"
     );
     insert(rt, alloc, &mut store, b"a", b"1000", Ok(Inserted::SetFull));
     insert(rt, alloc, &mut store, b"a", b"0999", Ok(Inserted::Present));
     let was_there = remove(alloc, &mut store, b"a", b"0000");
-    assert!(rt; was_there, "a value of a full set is removed");
+    check!(rt; was_there, "a value of a full set is removed");
     let is_there = remove(alloc, &mut store, b"a", b"0000");
-    assert!(rt; !is_there, "a value that was removed is not there");
+    check!(rt; !is_there, "a value that was removed is not there");
     fill_another(rt, alloc, &mut store);
     insert(rt, alloc, &mut store, b"a", b"1000", Ok(Inserted::Added));
     let values = values_under(alloc, &store, b"a").expect(rt, "memory for the values");
     let are_there = are_from_one(alloc, values);
     let count = store.count();
     drop(store);
-    assert!(rt; are_there, "the set has the values from 0001 to 1000");
-    assert!(rt; count == 1000, "they are all pairs of the store");
+    check!(rt; are_there, "the set has the values from 0001 to 1000");
+    check!(rt; count == 1000, "they are all pairs of the store");
 }
 
 // A value under another key is in a set of its own, and is removed from there.
 fn fill_another<S: EntryStore>(rt: &impl Abort, alloc: Global, store: &mut S) {
     insert(rt, alloc, store, b"b", b"0999", Ok(Inserted::Added));
-    assert!(rt; store.count() == 1000, "a pair under another key counts");
+    check!(rt; store.count() == 1000, "a pair under another key counts");
     let was_there = remove(alloc, store, b"b", b"0999");
-    assert!(rt; was_there, "it is removed from its own set");
-    assert!(rt; store.count() == 999, "and no other pair is");
+    check!(rt; was_there, "it is removed from its own set");
+    check!(rt; store.count() == 999, "and no other pair is");
 }
 
 // A span that contains `a` and `abc`, but not `b`.
@@ -171,7 +172,7 @@ fn has_one<S: EntryStore>(rt: &impl Abort, alloc: Global, store: S) {
         count_under(alloc, &store, b"b"),
     ];
     drop(store);
-    assert!(rt; counts == [Some(1), Some(0), Some(0), Some(1)]);
+    check!(rt; counts == [Some(1), Some(0), Some(0), Some(1)]);
 }
 
 fn is_of(pair: &Pair, key: &[u8], value: &[u8]) -> bool {
@@ -198,7 +199,7 @@ fn move_a_span<S: EntryStore>(rt: &impl Abort, alloc: Global, store: S) {
         Ok(pairs) => are_of_half(pairs),
         Err(_) => false,
     };
-    assert!(rt; are_copied);
+    check!(rt; are_copied);
     store.take_out(&half());
     has_one(rt, alloc, store);
 }
@@ -217,7 +218,7 @@ fn drop_half<S: EntryStore>(alloc: Global, store: &mut S) -> Option<usize> {
 fn drop_what_was_copied<S: EntryStore>(rt: &impl Abort, alloc: Global, store: S) {
     let mut store = store;
     put_four(rt, alloc, &mut store);
-    assert!(rt; drop_half(alloc, &mut store) == Some(3));
+    check!(rt; drop_half(alloc, &mut store) == Some(3));
     has_one(rt, alloc, store);
 }
 
@@ -307,16 +308,16 @@ fn put_into<S: EntryStore>(alloc: Global, store: S) -> Option<(Result<(), StoreF
 #[test]
 fn puts_all_pairs(rt: HostRuntime) {
     let alloc = rt.alloc();
-    assert!(rt; put_into(alloc, ListStore::new(alloc)) == Some((Ok(()), 2)));
-    assert!(rt; put_into(alloc, TreeStore::new(alloc)) == Some((Ok(()), 2)));
+    check!(&rt; put_into(alloc, ListStore::new(alloc)) == Some((Ok(()), 2)));
+    check!(&rt; put_into(alloc, TreeStore::new(alloc)) == Some((Ok(()), 2)));
 }
 
 #[test]
 fn puts_all_pairs_or_none(rt: HostRuntime) {
     let alloc = rt.alloc();
     let full = Err(StoreFault::Full);
-    assert!(rt; put_into(alloc, CappedStore::new(alloc, 1)) == Some((full, 0)));
-    assert!(rt; put_into(alloc, CappedStore::new(alloc, 2)) == Some((Ok(()), 2)));
+    check!(&rt; put_into(alloc, CappedStore::new(alloc, 1)) == Some((full, 0)));
+    check!(&rt; put_into(alloc, CappedStore::new(alloc, 2)) == Some((Ok(()), 2)));
 }
 
 #[test]
@@ -326,7 +327,7 @@ fn a_full_store_takes_what_it_has(rt: HostRuntime) {
     insert(&rt, alloc, &mut store, b"a", b"x", Ok(Inserted::Added));
     insert(&rt, alloc, &mut store, b"a", b"y", Err(StoreFault::Full));
     insert(&rt, alloc, &mut store, b"a", b"x", Ok(Inserted::Present));
-    assert!(rt; remove(alloc, &mut store, b"a", b"x"));
+    check!(&rt; remove(alloc, &mut store, b"a", b"x"));
     insert(&rt, alloc, &mut store, b"a", b"y", Ok(Inserted::Added));
     drop(store);
 }
@@ -334,7 +335,7 @@ fn a_full_store_takes_what_it_has(rt: HostRuntime) {
 #[test]
 fn faults_say_what_is_wrong(rt: HostRuntime) -> Result<(), Fail> {
     let text = format!(in rt.alloc(); "{}; {}", StoreFault::Full, StoreFault::Memory)?;
-    assert!(rt; text.as_str() == "the store is full; out of memory");
+    check!(&rt; text.as_str() == "the store is full; out of memory");
     Ok(())
 }
 
@@ -346,7 +347,7 @@ fn notes_three<S: EntryStore>(rt: &impl Abort, alloc: Global, store: S, note: &A
     }
     let before = note.get().copied();
     drop(store);
-    assert!(rt; [before, note.get().copied()] == [None, Some(3)]);
+    check!(rt; [before, note.get().copied()] == [None, Some(3)]);
 }
 
 // The same for a store in a box.
@@ -390,6 +391,6 @@ fn the_first_dropped_store_notes_its_count(rt: HostRuntime) -> Result<(), Fail> 
         noted_after(&rt, alloc, &note, &[b"x"]),
     ];
     drop(note);
-    assert!(rt; counts == [Some(0); 2]);
+    check!(&rt; counts == [Some(0); 2]);
     Ok(())
 }

@@ -2,6 +2,7 @@
 ghost use Rattle.std.specs.Prelude.{◌≡◌, [], IfOk};
 ghost use Rattle.std.specs.List.{All};
 
+use crate::checks::check;
 use chord_app_text::{Fault, Finish, GrammarFault};
 use chord_app_world::{add_store, empty_ones, world};
 use chord_ident::Id;
@@ -149,7 +150,7 @@ const OVER_A_LIST: &[(&str, &str)] = &[
 #[test]
 fn sessions_over_a_list(rt: HostRuntime) {
     for (script, wanted) in OVER_A_LIST {
-        assert!(rt; over_a_list(rt.alloc(), script, wanted) == DONE, "{script}");
+        check!(&rt; over_a_list(rt.alloc(), script, wanted) == DONE, script);
     }
 }
 
@@ -164,7 +165,7 @@ const OVER_ONE_PAIR: &[(&str, &str)] = &[
 fn sessions_over_one_pair(rt: HostRuntime) {
     for (script, wanted) in OVER_ONE_PAIR {
         let ran = over_one_pair(rt.alloc(), script, wanted);
-        assert!(rt; ran == DONE, "{script}");
+        check!(&rt; ran == DONE, script);
     }
 }
 
@@ -179,7 +180,7 @@ fn bad_line(rt: HostRuntime) {
     let script =
         "create 40000000000000000000000000000000\ncreat 80000000000000000000000000000000\n";
     let ran = over_a_list(rt.alloc(), script, "node 0\n");
-    assert!(rt; ran == stops_at(2, GrammarFault::NoLine));
+    check!(&rt; ran == stops_at(2, GrammarFault::NoLine));
 }
 
 /// Lines outside the grammar, and which word is wrong in each.
@@ -222,7 +223,7 @@ const NO_LINES: &[(&str, GrammarFault)] = &[
 fn lines_outside_the_grammar(rt: HostRuntime) {
     for (line, why) in NO_LINES {
         let ran = over_a_list(rt.alloc(), line, "");
-        assert!(rt; ran == stops_at(1, *why), "{line}: {ran:?}");
+        check!(&rt; ran == stops_at(1, *why), line);
     }
 }
 
@@ -230,7 +231,7 @@ fn lines_outside_the_grammar(rt: HostRuntime) {
 #[test]
 fn a_line_that_is_no_text(rt: HostRuntime) {
     let ran = bytes_over_a_list(rt.alloc(), b"caller\nhistory \xff\n", "caller 0\n");
-    assert!(rt; ran == stops_at(2, GrammarFault::NoText));
+    check!(&rt; ran == stops_at(2, GrammarFault::NoText));
 }
 
 fn over_no_store(alloc: Global, script: &str, wanted: &str) -> Ran {
@@ -242,7 +243,7 @@ fn over_no_store(alloc: Global, script: &str, wanted: &str) -> Ran {
 fn a_world_with_no_stores(rt: HostRuntime) {
     let script = "create 40000000000000000000000000000000";
     let ran = over_no_store(rt.alloc(), script, "refused 7 NoStore\n");
-    assert!(rt; ran == (Finish::Done, true));
+    check!(&rt; ran == (Finish::Done, true));
 }
 
 /// Adds 1,000 values of two bytes to a set: the script, and the lines that it should write.
@@ -324,7 +325,7 @@ fn over_a_full_set(alloc: Global) -> Option<Ran> {
 
 #[test]
 fn full_sets(rt: HostRuntime) {
-    assert!(rt; over_a_full_set(rt.alloc()) == DONE);
+    check!(&rt; over_a_full_set(rt.alloc()) == DONE);
 }
 
 /// A vector with room for all lines, tried twice.
@@ -357,8 +358,8 @@ fn over_one_pair_at_most(alloc: Global) -> Option<Ran> {
 #[test]
 fn a_refused_growth_ends_the_session(rt: HostRuntime) {
     let ran = over_one_pair_at_most(rt.alloc());
-    assert!(rt; matches!(ran, Some((Finish::Done | Finish::OutOfMemory, true))));
-    assert!(rt; Finish::OutOfMemory.status() == 3);
+    check!(&rt; matches!(ran, Some((Finish::Done | Finish::OutOfMemory, true))));
+    check!(&rt; Finish::OutOfMemory.status() == 3);
 }
 
 /// How many of two stores are kept, if the second has a pair.
@@ -383,6 +384,6 @@ fn kept_of_two(alloc: Global) -> Result<usize, Fail> {
 
 #[test]
 fn stores_with_pairs_are_left_out(rt: HostRuntime) -> Result<(), Fail> {
-    assert!(rt; kept_of_two(rt.alloc())? == 1);
+    check!(&rt; kept_of_two(rt.alloc())? == 1);
     Ok(())
 }

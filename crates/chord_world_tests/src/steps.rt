@@ -4,6 +4,7 @@ ghost use Rattle.std.specs.Prelude.{◌≡◌, [], List, IfOk};
 ghost use Rattle.std.specs.List.{All};
 ghost use Rattle.chord_map.specs.declared.pair.Pair.{Pair};
 
+use crate::checks::check;
 use chord_ident::Id;
 use chord_links::Peer;
 use chord_map::Reply;
@@ -73,7 +74,7 @@ fn world_after(
 #[test]
 fn a_repeated_call_acts_once(rt: HostRuntime) -> Result<(), Fail> {
     let (world, answers) = world_after(rt.alloc(), REPEATED)?;
-    assert!(rt; answers.as_slice() == ANSWERS_TO_REPEATED && world.history().len() == 1);
+    check!(&rt; answers.as_slice() == ANSWERS_TO_REPEATED && world.history().len() == 1);
     world.headline();
     Ok(())
 }
@@ -102,8 +103,8 @@ fn is_ask(world: &World<ListStore>, message: u64) -> bool {
 #[test]
 fn a_repeated_call_is_told_once(rt: HostRuntime) -> Result<(), Fail> {
     let world = world_of(rt.alloc(), REPEATED)?;
-    assert!(rt; count_taken(&world, 0) == Some(1) && count_taken(&world, 1) == None);
-    assert!(rt; is_ask(&world, 0) && world.message(3).is_none());
+    check!(&rt; count_taken(&world, 0) == Some(1) && count_taken(&world, 1) == None);
+    check!(&rt; is_ask(&world, 0) && world.message(3).is_none());
     Ok(())
 }
 
@@ -121,7 +122,7 @@ fn created_without_a_store(alloc: Global) -> Result<Result<Outcome, Refusal>, Al
 #[test]
 fn a_step_without_a_store(rt: HostRuntime) -> Result<(), Fail> {
     let refused = created_without_a_store(rt.alloc())?;
-    assert!(rt; refused == Err(Refusal::NoStore) && Refusal::NoStore.number() == 7);
+    check!(&rt; refused == Err(Refusal::NoStore) && Refusal::NoStore.number() == 7);
     Ok(())
 }
 
@@ -163,7 +164,7 @@ const ANSWERS_TO_NOTED: &[StepResult] = &[
 
 #[test]
 fn notes_are_met(rt: HostRuntime) -> Result<(), Fail> {
-    assert!(rt; answers_to(rt.alloc(), NOTED)?.as_slice() == ANSWERS_TO_NOTED);
+    check!(&rt; answers_to(rt.alloc(), NOTED)?.as_slice() == ANSWERS_TO_NOTED);
     Ok(())
 }
 
@@ -172,7 +173,7 @@ fn notes_are_met(rt: HostRuntime) -> Result<(), Fail> {
 fn a_note_stands_before_what_is_asked_then(rt: HostRuntime) -> Result<(), Fail> {
     let world = world_of(rt.alloc(), NOTED)?;
     let history = world.history();
-    assert!(rt; history.len() == 2 && (history[0].caller, history[1].caller) == (1, 0));
+    check!(&rt; history.len() == 2 && (history[0].caller, history[1].caller) == (1, 0));
     Ok(())
 }
 
@@ -190,8 +191,8 @@ fn was_told_of_an_insert(world: &World<ListStore>, caller: u64) -> Option<bool> 
 #[test]
 fn a_caller_knows_what_it_was_told_of(rt: HostRuntime) -> Result<(), Fail> {
     let world = world_of(rt.alloc(), NOTED)?;
-    assert!(rt; count_told(&world, 0) == Some(1) && was_told_of_an_insert(&world, 0) == Some(true));
-    assert!(rt; count_told(&world, 1) == Some(0) && count_told(&world, 2) == None);
+    check!(&rt; count_told(&world, 0) == Some(1) && was_told_of_an_insert(&world, 0) == Some(true));
+    check!(&rt; count_told(&world, 1) == Some(0) && count_told(&world, 2) == None);
     Ok(())
 }
 
@@ -263,12 +264,12 @@ fn a_request_goes_out_again(rt: HostRuntime) -> Result<(), Fail> {
     let answers = answers_to(rt.alloc(), RESENT)?;
     let are_wanted = answers.as_slice() == ANSWERS_TO_RESENT;
     drop(answers);
-    assert!(rt;
+    check!(&rt;
         are_wanted,
         "a request is sent again while it is pending, and at no other time"
     );
     let world = world_of(rt.alloc(), RESENT)?;
-    assert!(rt;
+    check!(&rt;
         world.history().len() == 1,
         "however often it is sent, it acts once"
     );
@@ -307,6 +308,6 @@ fn fingers_are_set(rt: HostRuntime) -> Result<(), Fail> {
     let are_set = has_its_first_finger(&world);
     drop(world);
     drop(answers);
-    assert!(rt; are_told && are_set);
+    check!(&rt; are_told && are_set);
     Ok(())
 }

@@ -1,5 +1,6 @@
 //! Connections over loopback: how they are made ready, told not to sleep, closed slowly, and ended.
 
+use crate::checks::check;
 use chord_app_sockets::{Clients, Pollable, close_slowly, prepare};
 use std::alloc::Global;
 use std::io::{self, ErrorKind, Read, Write};
@@ -58,14 +59,14 @@ fn reads_and_writes_give_up(rt: HostRuntime) {
         write: None,
     };
     let seen = made_ready(&rt, None).ok();
-    assert!(rt; seen == Some(patient), "with no limit neither gives up");
+    check!(&rt; seen == Some(patient), "with no limit neither gives up");
     let limited = Ready {
         read: Some(Duration::from_millis(100)),
         write: Some(Duration::from_secs(7)),
         ..patient
     };
     let seen = made_ready(&rt, Some(7)).ok();
-    assert!(rt;
+    check!(&rt;
         seen == Some(limited),
         "a read gives up after a tenth of a second, a write after all of them"
     );
@@ -219,7 +220,7 @@ fn ended<R: Net<Listener = TcpListener, Stream = TcpStream> + Wait + Clock>(
 fn open_connections_are_shut_down(rt: HostRuntime) {
     let reads = ended(&rt, rt.alloc()).ok();
     let wanted = Some((Err(ErrorKind::WouldBlock), Ok(0)));
-    assert!(rt; reads == wanted, "a connection that stays open is ended");
+    check!(&rt; reads == wanted, "a connection that stays open is ended");
 }
 
 /// What two clients read once the connection of the second is ended, and whether all are told to

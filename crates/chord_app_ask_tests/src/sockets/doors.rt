@@ -1,5 +1,6 @@
 //! The doors of a server over loopback, and the line that tells where operators are served.
 
+use crate::checks::check;
 use chord_app_sockets::{Door, Doors, Lines, Protocol};
 use std::alloc::Global;
 use std::io;
@@ -94,5 +95,5 @@ fn tells_operators<R: Net<Listener = TcpListener, Stream = TcpStream> + Wait>(
 #[test]
 fn the_line_of_an_operator(rt: HostRuntime) {
     let is_told = tells_operators(&rt, rt.alloc());
-    assert!(rt; is_told == Some(true), "the address of operators");
+    check!(&rt; is_told == Some(true), "the address of operators");
 }

@@ -1,5 +1,6 @@
 //! When a server ends, how connections end, and the lines that are written of them.
 
+use crate::checks::check;
 use chord_app_sockets::{ClientSeconds, Doors, Ended, Lines, Stop, Until};
 use chord_app_text::{Fault, Finish};
 use chord_serve::{ReadSize, Served};
@@ -95,9 +96,9 @@ fn stop_at_the_end<R: Net<Listener = TcpListener, Stream = TcpStream> + Clock>(
 #[test]
 fn servers_end(rt: HostRuntime) {
     let until = Until::Connections(7);
-    assert!(rt; show(until) == SEVEN, "one that takes seven connections");
+    check!(&rt; show(until) == SEVEN, "one that takes seven connections");
     until.stop(&rt);
-    assert!(rt; show(until) == SEVEN, "it can't be stopped");
+    check!(&rt; show(until) == SEVEN, "it can't be stopped");
     let wanted = Stopped {
         before: STAYING,
         after: Shown {
@@ -107,7 +108,7 @@ fn servers_end(rt: HostRuntime) {
         is_woken: true,
     };
     let stopped = stop_at_the_end(&rt).ok();
-    assert!(rt;
+    check!(&rt;
         stopped == Some(wanted),
         "one that stays is stopped at its input's end"
     );
@@ -145,13 +146,13 @@ fn is_written(alloc: Global, ended: &Ended, wanted: &str) -> Option<bool> {
 fn connections_end(rt: HostRuntime) {
     for (ended, word, is_slow) in ENDS {
         let is_written = is_written(rt.alloc(), ended, word);
-        assert!(rt; is_written == Some(true), "{word}");
-        assert!(rt; ended.is_closed_slowly() == *is_slow, "{word}");
+        check!(&rt; is_written == Some(true), word);
+        check!(&rt; ended.is_closed_slowly() == *is_slow, word);
     }
     let idle = Ended::by(Served::Read, true);
-    assert!(rt; idle == Ended::Idle, "a client that was idle too long");
+    check!(&rt; idle == Ended::Idle, "a client that was idle too long");
     let read = Ended::by(Served::Read, false);
-    assert!(rt;
+    check!(&rt;
         read == Ended::Served(Served::Read),
         "one that could not be read"
     );
@@ -212,10 +213,10 @@ fn writes<R: Net<Listener = TcpListener, Stream = TcpStream> + Wait>(
 fn lines_of_connections(rt: HostRuntime) {
     let wanted = "connection 1 idle\nconnection 0 ended\nconnection 2 callersspent\n";
     let written = writes(&rt, rt.alloc(), 0, wanted);
-    assert!(rt; written == Some((ALL_TOLD, true)), "as they end");
+    check!(&rt; written == Some((ALL_TOLD, true)), "as they end");
     let wanted = "connection 0 ended\nconnection 1 idle\nconnection 2 callersspent\n";
     let written = writes(&rt, rt.alloc(), 3, wanted);
-    assert!(rt; written == Some((ALL_TOLD, true)), "by number at the end");
+    check!(&rt; written == Some((ALL_TOLD, true)), "by number at the end");
 }
 
 /// Writes into room for the address, which has at most 32 bytes, and for one line of 18 at least.
@@ -236,7 +237,7 @@ fn a_line_that_is_not_written_is_the_last(rt: HostRuntime) {
         finish: Err(Finish::Fault(Fault::Write)),
     };
     let told = writes_one_line(&rt, rt.alloc());
-    assert!(rt;
+    check!(&rt;
         told == Some(wanted),
         "no line is told behind one that failed"
     );

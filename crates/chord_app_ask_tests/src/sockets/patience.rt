@@ -1,5 +1,6 @@
 //! How long a server waits for a client, over readers and writers of the test's own.
 
+use crate::checks::check;
 use chord_app_sockets::{Clients, PatientReader, PatientWriter};
 use std::alloc::Global;
 use std::io::{self, ErrorKind, Read, Write};
@@ -67,7 +68,7 @@ fn a_reader_waits_for_its_client(rt: HostRuntime) {
         calls: 11,
     };
     let seen = two_reads(&clients, Some(1), 9);
-    assert!(rt; seen == in_time, "the tenth read of a second is in time");
+    check!(&rt; seen == in_time, "the tenth read of a second is in time");
     let too_late = Reads {
         first: Err(ErrorKind::TimedOut),
         second: Ok(1),
@@ -75,7 +76,7 @@ fn a_reader_waits_for_its_client(rt: HostRuntime) {
         calls: 11,
     };
     let seen = two_reads(&clients, Some(1), 10);
-    assert!(rt; seen == too_late, "the eleventh is too late");
+    check!(&rt; seen == too_late, "the eleventh is too late");
     let patient = Reads {
         first: Ok(1),
         second: Ok(1),
@@ -83,7 +84,7 @@ fn a_reader_waits_for_its_client(rt: HostRuntime) {
         calls: 1_002,
     };
     let seen = two_reads(&clients, None, 1_000);
-    assert!(rt; seen == patient, "with no limit it waits on");
+    check!(&rt; seen == patient, "with no limit it waits on");
 }
 
 /// Once the clients are told to end.
@@ -104,7 +105,7 @@ fn the_input_ends_with_the_server(rt: HostRuntime) {
         calls: 0,
     };
     let seen = reads_at_the_end(&rt, rt.alloc());
-    assert!(rt; seen == ended, "nothing more is read");
+    check!(&rt; seen == ended, "nothing more is read");
 }
 
 /// A writer that fails in this way, or takes all bytes.
@@ -154,7 +155,7 @@ fn a_writer_tells_that_its_client_is_idle(rt: HostRuntime) {
         wrote: Ok(3),
         is_idle: false,
     };
-    assert!(rt;
+    check!(&rt;
         writes(None) == taken,
         "a client that takes bytes is not idle"
     );
@@ -164,11 +165,11 @@ fn a_writer_tells_that_its_client_is_idle(rt: HostRuntime) {
         ..taken
     };
     let wrote = writes(Some(ErrorKind::WouldBlock));
-    assert!(rt; wrote == idle, "one that takes none in time is");
+    check!(&rt; wrote == idle, "one that takes none in time is");
     let gone = Wrote {
         wrote: Err(ErrorKind::BrokenPipe),
         ..taken
     };
     let wrote = writes(Some(ErrorKind::BrokenPipe));
-    assert!(rt; wrote == gone, "one that is gone is not");
+    check!(&rt; wrote == gone, "one that is gone is not");
 }

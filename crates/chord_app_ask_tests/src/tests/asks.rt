@@ -1,5 +1,6 @@
 //! The command `ask`, over loopback.
 
+use crate::checks::check;
 use crate::tests::loopback::{Asked, asks, asks_and_ends, bound, end_waiting};
 use chord_app_ask::{AskOutcome, ClientOptions, ask_one, read_line, read_words};
 use chord_app_text::{Fault, Finish, WordFault};
@@ -78,13 +79,13 @@ fn asks_nobody_one<R: Net<Listener = TcpListener, Stream = TcpStream> + Clock>(
 
 #[test]
 fn nobody_listens(rt: HostRuntime) {
-    assert!(rt; asks_nobody(&rt, rt.alloc()) == Some(true));
+    check!(&rt; asks_nobody(&rt, rt.alloc()) == Some(true));
 }
 
 #[test]
 fn nobody_listens_to_one_request(rt: HostRuntime) {
     let asked = asks_nobody_one(&rt, rt.alloc(), &["retrieve", "abc"]);
-    assert!(rt; asked == Some(true));
+    check!(&rt; asked == Some(true));
 }
 
 /// Answers the first bytes on a connection, if any come. Says whether they do.
@@ -165,7 +166,7 @@ fn asks_one_that_ends<R: Threads + Clock + Net<Listener = TcpListener, Stream = 
 fn one_request(rt: HostRuntime) {
     let asking = Asking::Words(&["insert", "a b", ""], "added\n");
     let asked = asks_one_that_ends(&rt, rt.alloc(), (1, 1), asking, 1, &ADDED);
-    assert!(rt; asked == Some((Ok(Finish::Done), true)));
+    check!(&rt; asked == Some((Ok(Finish::Done), true)));
 }
 
 // Added, number 1.
@@ -185,7 +186,7 @@ fn a_lost_connection(rt: HostRuntime) {
         (Asking::Lines("remove abc x\n", "lost\n"), 1, [].as_slice()),
     ] {
         let asked = asks_one_that_ends(&rt, rt.alloc(), (2, 3), asking, ended, answer);
-        assert!(rt; asked == Some((Ok(unanswered), true)));
+        check!(&rt; asked == Some((Ok(unanswered), true)));
     }
 }
 
@@ -198,7 +199,7 @@ fn a_connection_without_a_caller(rt: HostRuntime) {
     for input in ["insert abc x\n", "retrieve abc\n"] {
         let asking = Asking::Lines(input, "callersspent\n");
         let asked = asks_one_that_ends(&rt, rt.alloc(), (2, 3), asking, 1, &no_caller);
-        assert!(rt; asked == Some((Ok(unanswered), true)));
+        check!(&rt; asked == Some((Ok(unanswered), true)));
     }
 }
 
@@ -235,17 +236,17 @@ fn stops_at(line: u64, why: WordFault) -> Result<Finish, Finish> {
 fn a_line_that_is_too_long(rt: HostRuntime) {
     let alloc = rt.alloc();
     let longest = asks_behind(&rt, alloc, "", 16_384, "");
-    assert!(rt;
+    check!(&rt;
         longest == Some((stops_at(1, WordFault::NoOperation), true)),
         "a line of 16,384 bytes is read"
     );
     let longer = asks_behind(&rt, alloc, "", 16_385, "");
-    assert!(rt;
+    check!(&rt;
         longer == Some((stops_at(1, WordFault::LineLong), true)),
         "one of 16,385 is too long"
     );
     let second = asks_behind(&rt, alloc, "insert abc x\n", 16_385, "added\n");
-    assert!(rt;
+    check!(&rt;
         second == Some((stops_at(2, WordFault::LineLong), true)),
         "the request before it is asked"
     );
@@ -267,7 +268,7 @@ fn a_retrieve_is_asked_again(rt: HostRuntime) {
         let asking = Asking::Lines("retrieve abc\n", wanted);
         let ended = tries as usize;
         let asked = asks_one_that_ends(&rt, rt.alloc(), (2, tries), asking, ended, answer);
-        assert!(rt; asked == Some((Ok(finish), true)));
+        check!(&rt; asked == Some((Ok(finish), true)));
     }
 }
 
@@ -286,11 +287,11 @@ fn is_insert(read: Result<Request, WordFault>, wanted_key: &[u8], wanted: &[u8])
 fn words_of_requests(rt: HostRuntime) {
     let alloc = rt.alloc();
     let line = read_line(alloc, b"insert x:0aFF x:-");
-    assert!(rt; is_insert(line, &[10, 255], b""));
+    check!(&rt; is_insert(line, &[10, 255], b""));
     let words = read_words(alloc, &["insert", "a b", ""]);
-    assert!(rt; is_insert(words, b"a b", b""));
+    check!(&rt; is_insert(words, b"a b", b""));
     let read = read_line(alloc, b"insert a ");
-    assert!(rt; is_insert(read, b"a", b""));
+    check!(&rt; is_insert(read, b"a", b""));
 }
 
 /// Why words are no request.
@@ -325,7 +326,7 @@ fn words_that_are_no_request(rt: HostRuntime) {
         );
     }
     let none = fault_of(read_words(rt.alloc(), &[]));
-    assert!(rt; none == Some(WordFault::NoOperation));
+    check!(&rt; none == Some(WordFault::NoOperation));
 }
 
 /// The fault of a key of 256 bytes, and that of a value of 4,097.
@@ -341,7 +342,7 @@ fn faults_of_long_words(alloc: Global) -> Option<(WordFault, WordFault)> {
 #[test]
 fn words_that_are_too_long(rt: HostRuntime) {
     let faults = faults_of_long_words(rt.alloc());
-    assert!(rt; faults == Some((WordFault::KeyLength, WordFault::ValueLength)));
+    check!(&rt; faults == Some((WordFault::KeyLength, WordFault::ValueLength)));
 }
 
 fn add_lines(alloc: Global, text: &mut String, outcomes: &[AskOutcome]) -> Result<(), AllocError> {
@@ -381,7 +382,7 @@ fn are_lines(alloc: Global, wanted: &str) -> Option<bool> {
 #[test]
 fn outcomes_as_lines(rt: HostRuntime) {
     let wanted = "setfull\nfull\nnoanswer\nfault 8\ncallersspent\nlost\n";
-    assert!(rt; are_lines(rt.alloc(), wanted) == Some(true));
+    check!(&rt; are_lines(rt.alloc(), wanted) == Some(true));
 }
 
 /// Whether this outcome is a reply.
@@ -393,11 +394,11 @@ fn is_reply(outcome: AskOutcome) -> bool {
 
 #[test]
 fn outcomes_that_are_replies(rt: HostRuntime) {
-    assert!(rt; is_reply(AskOutcome::Reply(Reply::Added)));
-    assert!(rt; is_reply(AskOutcome::Reply(Reply::SetFull)));
-    assert!(rt; !is_reply(AskOutcome::Full));
-    assert!(rt; !is_reply(AskOutcome::NoAnswer));
-    assert!(rt; !is_reply(AskOutcome::Fault(FaultCode::NumberReused)));
-    assert!(rt; !is_reply(AskOutcome::CallersSpent));
-    assert!(rt; !is_reply(AskOutcome::Lost));
+    check!(&rt; is_reply(AskOutcome::Reply(Reply::Added)));
+    check!(&rt; is_reply(AskOutcome::Reply(Reply::SetFull)));
+    check!(&rt; !is_reply(AskOutcome::Full));
+    check!(&rt; !is_reply(AskOutcome::NoAnswer));
+    check!(&rt; !is_reply(AskOutcome::Fault(FaultCode::NumberReused)));
+    check!(&rt; !is_reply(AskOutcome::CallersSpent));
+    check!(&rt; !is_reply(AskOutcome::Lost));
 }

@@ -1,5 +1,6 @@
 //! The command `load`, over loopback, and its histogram.
 
+use crate::checks::check;
 use crate::tests::loopback::bound;
 use chord_app_ask::{Drops, Histogram, Kind, Load, Report, Tokens, Until, run_load};
 use chord_app_text::{Fault, Finish};
@@ -43,7 +44,7 @@ fn loaded_by_nobody<
 
 #[test]
 fn a_load_of_nobody(rt: HostRuntime) {
-    assert!(rt; loaded_by_nobody(&rt, rt.alloc()) == Some((true, 0)));
+    check!(&rt; loaded_by_nobody(&rt, rt.alloc()) == Some((true, 0)));
 }
 
 #[test]
@@ -53,7 +54,7 @@ fn shares_of_connections(rt: HostRuntime) {
         ..load_of(1, Kind::Insert, 10)
     };
     for (connection, share) in [(0, 3), (1, 3), (2, 2), (3, 2)] {
-        assert!(rt; load.share(connection) == share);
+        check!(&rt; load.share(connection) == share);
     }
 }
 
@@ -68,32 +69,32 @@ fn values_that_nobody_else_inserts(rt: HostRuntime) {
         drops: Some(Drops { every: 10, seed: 1 }),
         ..load_of(1, Kind::Insert, 10)
     };
-    assert!(rt; unique.has_unique_values(), "16 bytes are enough");
+    check!(&rt; unique.has_unique_values(), "16 bytes are enough");
     let longest = Load {
         value_size: 4096,
         ..unique
     };
-    assert!(rt; longest.has_unique_values(), "and so are more");
+    check!(&rt; longest.has_unique_values(), "and so are more");
     let short = Load {
         value_size: 15,
         ..unique
     };
-    assert!(rt; !short.has_unique_values(), "15 bytes are too few");
+    check!(&rt; !short.has_unique_values(), "15 bytes are too few");
     let retrieves = Load {
         kind: Kind::Retrieve,
         ..unique
     };
-    assert!(rt; !retrieves.has_unique_values(), "nothing is inserted");
+    check!(&rt; !retrieves.has_unique_values(), "nothing is inserted");
     let uncut = Load {
         drops: None,
         ..unique
     };
-    assert!(rt; !uncut.has_unique_values(), "no connection is cut");
+    check!(&rt; !uncut.has_unique_values(), "no connection is cut");
     let without_sessions = Load {
         tokens: None,
         ..unique
     };
-    assert!(rt; !without_sessions.has_unique_values(), "no session goes on");
+    check!(&rt; !without_sessions.has_unique_values(), "no session goes on");
 }
 
 /// Checks that the report is written as this table.
@@ -119,7 +120,7 @@ fn an_empty_table(rt: HostRuntime) {
     let wanted =
         "requests                0\nmilliseconds          500\na second                0\np50                     -\np90                     -\np99                     -\np99.9                   -\nfaults                  0";
     let alloc = rt.alloc();
-    assert!(rt; is_shown(alloc, nothing(alloc), wanted) == Some(true));
+    check!(&rt; is_shown(alloc, nothing(alloc), wanted) == Some(true));
 }
 
 /// A report with each value below 1,000 once.
@@ -175,7 +176,7 @@ fn tables(rt: HostRuntime) {
     let wanted =
         "requests             2000\nmilliseconds          500\na second             4000\np50                    71 us\np90                   799 us\np99                   991 us\np99.9                1023 us\nfaults                  3\nempty sets              2\nresumed                 2\ndoubled                 1";
     let alloc = rt.alloc();
-    assert!(rt; is_shown(alloc, joined(alloc), wanted) == Some(true));
+    check!(&rt; is_shown(alloc, joined(alloc), wanted) == Some(true));
 }
 
 fn record_thousand(histogram: &mut Histogram) -> bool {
@@ -241,7 +242,7 @@ fn of_nothing(alloc: Global) -> Option<(Option<u64>, u64, usize)> {
 
 #[test]
 fn an_empty_histogram(rt: HostRuntime) {
-    assert!(rt; of_nothing(rt.alloc()) == Some((None, 0, 976)));
+    check!(&rt; of_nothing(rt.alloc()) == Some((None, 0, 976)));
 }
 
 /// A percentile of the values below 1,000, in thousandths.
@@ -293,7 +294,7 @@ fn filled(alloc: Global) -> Option<(u64, [(bool, u64); 3], usize)> {
 #[test]
 fn the_most_values(rt: HostRuntime) {
     let recorded = [(false, 1000), (true, u64::MAX), (false, u64::MAX)];
-    assert!(rt; filled(rt.alloc()) == Some((1000, recorded, 976)));
+    check!(&rt; filled(rt.alloc()) == Some((1000, recorded, 976)));
 }
 
 /// A histogram with the value 5 `times` times.
@@ -335,5 +336,5 @@ fn joined_histograms(rt: HostRuntime) {
         Some((u64::MAX, Some(5))),
         Some((1000, Some(511))),
     ];
-    assert!(rt; seen == wanted, "what makes 2^64 is not added");
+    check!(&rt; seen == wanted, "what makes 2^64 is not added");
 }

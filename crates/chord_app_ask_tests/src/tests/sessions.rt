@@ -1,5 +1,6 @@
 //! The commands in sessions, which go on where connections are lost.
 
+use crate::checks::check;
 use crate::tests::loads::load_of;
 use crate::tests::loopback::{Asked, asks_and_ends, bound, end_waiting};
 use crate::tests::small_server::{SmallServer, Visit};
@@ -155,10 +156,10 @@ fn a_session_for_which_there_is_no_caller(rt: HostRuntime) {
 fn tokens_differ(rt: HostRuntime) {
     let one = Tokens::new(&rt).expect(&rt, "random bytes");
     let other = Tokens::new(&rt).expect(&rt, "random bytes");
-    assert!(rt; one.token(0) == one.token(0));
-    assert!(rt; one.token(0) != one.token(1));
-    assert!(rt; one.token(0) != other.token(0));
-    assert!(rt; one.word(0, 0) != one.word(0, 1));
+    check!(&rt; one.token(0) == one.token(0));
+    check!(&rt; one.token(0) != one.token(1));
+    check!(&rt; one.token(0) != other.token(0));
+    check!(&rt; one.word(0, 0) != one.word(0, 1));
 }
 
 /// Loads, and then ends a server that still waits for clients, of which it takes this many.
@@ -222,7 +223,7 @@ fn a_load_whose_connections_are_cut(rt: HostRuntime) {
     let tokens = Tokens::new(&rt).expect(&rt, "random bytes");
     for (kind, doubled) in [(Kind::Insert, Some(0)), (Kind::Retrieve, None)] {
         let Some((ended, counts, table)) = loaded(&rt, rt.alloc(), tokens, kind) else {
-            assert!(rt; false, "a load");
+            check!(&rt; false, "a load");
             return;
         };
         let requests = number_at(&table, "requests");

@@ -1,5 +1,6 @@
 //! The command line of `ask`.
 
+use crate::checks::check;
 use crate::tests::lines::{ReadLine, prints_usage, read_line, refused};
 use chord_app_options::{client_options_of, request_of, wants_session};
 use chord_map::Request;
@@ -7,7 +8,7 @@ use clap::ArgMatches;
 use std::alloc::Global;
 
 /// What a line of `ask` says, and how many words its request has.
-#[derive(Clone, Copy, Debug, PartialEq, Eq)]
+#[derive(Clone, Copy, PartialEq, Eq)]
 struct AskLine {
     port: u16,
     version: u8,
@@ -55,7 +56,7 @@ const PLAIN_LINES: &[&str] = &[
 fn options_of_ask(rt: HostRuntime) {
     for line in PLAIN_LINES {
         let said = read_line::<AskLine>(rt.alloc(), *line);
-        assert!(rt; said == Some(PLAIN), "{line}: {said:?}");
+        check!(&rt; said == Some(PLAIN), line);
     }
 }
 
@@ -88,7 +89,7 @@ fn sessions_of_clients(rt: HostRuntime) {
             is_wanted: *is_wanted,
         };
         let said = read_line::<SessionLine>(rt.alloc(), *line);
-        assert!(rt; said == Some(wanted), "{line}");
+        check!(&rt; said == Some(wanted), line);
     }
 }
 
@@ -109,7 +110,7 @@ const REFUSED: &[&str] = &[
 #[test]
 fn refused_options_of_ask(rt: HostRuntime) {
     for line in REFUSED {
-        assert!(rt; refused(rt.alloc(), *line) == Some(2), "{line}");
+        check!(&rt; refused(rt.alloc(), *line) == Some(2), line);
     }
 }
 
@@ -140,7 +141,7 @@ const FAULTS: &[(&str, &str)] = &[
 fn faults_of_ask(rt: HostRuntime) {
     for (line, text) in FAULTS {
         let printed = prints_usage(rt.alloc(), *line, text, USAGE);
-        assert!(rt; printed == Some((true, 2)), "{line}");
+        check!(&rt; printed == Some((true, 2)), line);
     }
 }
 
@@ -185,12 +186,12 @@ const REQUEST_FAULTS: &[(&str, &str)] = &[
 fn faults_of_requests(rt: HostRuntime) {
     for (line, text) in REQUEST_FAULTS {
         let printed = prints_usage(rt.alloc(), *line, text, USAGE);
-        assert!(rt; printed == Some((true, 2)), "{line}");
+        check!(&rt; printed == Some((true, 2)), line);
     }
 }
 
 /// What the request on a line is.
-#[derive(Clone, Copy, Debug, PartialEq, Eq)]
+#[derive(Clone, Copy, PartialEq, Eq)]
 enum RequestLine {
     Nothing,
     /// The insert of `x` under `a`.
@@ -225,6 +226,6 @@ const REQUESTS: &[(&str, RequestLine)] = &[
 fn requests_of_ask(rt: HostRuntime) {
     for (line, wanted) in REQUESTS {
         let request = read_line::<RequestLine>(rt.alloc(), *line);
-        assert!(rt; request == Some(*wanted), "{line}: {request:?}");
+        check!(&rt; request == Some(*wanted), line);
     }
 }

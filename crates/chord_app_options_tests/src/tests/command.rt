@@ -1,5 +1,6 @@
 //! How commands end, the words of lines, and replies on them.
 
+use crate::checks::check;
 use chord_app_ring::RingFault;
 use chord_app_text::{
     Fault, Finish, GrammarFault, Hex, InsertFault, LineFault, PairFault, ReplyText, WordFault,
@@ -22,7 +23,7 @@ const STATUSES: &[(Finish, u8)] = &[
 #[test]
 fn statuses(rt: HostRuntime) {
     for (finish, status) in STATUSES {
-        assert!(rt; finish.status() == *status);
+        check!(&rt; finish.status() == *status);
     }
 }
 
@@ -31,27 +32,27 @@ fn statuses(rt: HostRuntime) {
 #[test]
 fn refused_memory_is_told_as_that(rt: HostRuntime) {
     let finish = Finish::from(AllocError);
-    assert!(rt; finish == Finish::OutOfMemory, "of a command");
+    check!(&rt; finish == Finish::OutOfMemory, "of a command");
     let finish = Finish::from(io::Error::from(ErrorKind::OutOfMemory));
-    assert!(rt; finish == Finish::OutOfMemory, "of a write");
+    check!(&rt; finish == Finish::OutOfMemory, "of a write");
     let finish = Finish::from(io::Error::from(ErrorKind::BrokenPipe));
-    assert!(rt;
+    check!(&rt;
         finish == Finish::Fault(Fault::Write),
         "a write that failed"
     );
     let fault = WordFault::from(AllocError);
-    assert!(rt; fault == WordFault::OutOfMemory, "of a request's words");
+    check!(&rt; fault == WordFault::OutOfMemory, "of a request's words");
     let fault = LineFault::from(AllocError);
-    assert!(rt; fault == LineFault::OutOfMemory, "of a line's words");
+    check!(&rt; fault == LineFault::OutOfMemory, "of a line's words");
     let fault = LineFault::from(GrammarFault::NoLine);
-    assert!(rt;
+    check!(&rt;
         fault == LineFault::Grammar(GrammarFault::NoLine),
         "a wrong word is told as that"
     );
     let fault = RingFault::from(AllocError);
     let is_memory = matches!(&fault, RingFault::Memory);
     drop(fault);
-    assert!(rt; is_memory, "of an answer of the operator's service");
+    check!(&rt; is_memory, "of an answer of the operator's service");
 }
 
 /// The exit status of a fault, and whether it has this text.
@@ -131,7 +132,7 @@ const TEXTS: &[(Fault, &str)] = &[
 fn texts_of_faults(rt: HostRuntime) {
     for (fault, wanted) in TEXTS {
         let told = tells(rt.alloc(), *fault, wanted);
-        assert!(rt; told == Some((1, true)), "{wanted}");
+        check!(&rt; told == Some((1, true)), wanted);
     }
 }
 
@@ -163,7 +164,7 @@ fn texts_of_lines_outside_the_grammar(rt: HostRuntime) {
     for (why, wanted) in GRAMMAR_TEXTS {
         let fault = Fault::Line { line: 7, why: *why };
         let told = tells(rt.alloc(), fault, wanted);
-        assert!(rt; told == Some((1, true)), "{wanted}");
+        check!(&rt; told == Some((1, true)), wanted);
     }
 }
 
@@ -218,7 +219,7 @@ fn texts_of_lines_that_are_no_request(rt: HostRuntime) {
     for (why, wanted) in REQUEST_TEXTS {
         let fault = Fault::Request { line: 7, why: *why };
         let told = tells(rt.alloc(), fault, wanted);
-        assert!(rt; told == Some((1, true)), "{wanted}");
+        check!(&rt; told == Some((1, true)), wanted);
     }
 }
 
@@ -227,13 +228,13 @@ fn texts_of_lines_that_are_no_request(rt: HostRuntime) {
 fn words_of_a_line(rt: HostRuntime) {
     let mut words = Words::new("insert  7");
     let all = [words.word(), words.word(), words.word()];
-    assert!(rt; all == [Ok("insert"), Ok(""), Ok("7")]);
-    assert!(rt; (words.has_more(), words.end()) == (false, Ok(())));
+    check!(&rt; all == [Ok("insert"), Ok(""), Ok("7")]);
+    check!(&rt; (words.has_more(), words.end()) == (false, Ok(())));
     let missing = LineFault::Grammar(GrammarFault::Missing(4));
-    assert!(rt; words.word() == Err(missing), "the fourth word is missing");
+    check!(&rt; words.word() == Err(missing), "the fourth word is missing");
     let more = Words::new("a");
     let first = LineFault::Grammar(GrammarFault::TooMany(1));
-    assert!(rt; (more.has_more(), more.end()) == (true, Err(first)));
+    check!(&rt; (more.has_more(), more.end()) == (true, Err(first)));
 }
 
 /// The first word is no number.
@@ -252,7 +253,7 @@ const NUMBERS: &[(&str, Result<u64, LineFault>)] = &[
 #[test]
 fn numbers(rt: HostRuntime) {
     for (line, number) in NUMBERS {
-        assert!(rt; Words::new(line).number() == *number, "{line}");
+        check!(&rt; Words::new(line).number() == *number, line);
     }
 }
 
@@ -273,7 +274,7 @@ fn identifiers(rt: HostRuntime) {
             Some(number) => Ok(Id::new(*number)),
             None => Err(LineFault::Grammar(GrammarFault::NoIdentifier(1))),
         };
-        assert!(rt; Words::new(line).id() == read, "{line}");
+        check!(&rt; Words::new(line).id() == read, line);
     }
 }
 
@@ -301,7 +302,7 @@ fn bytes_of_digits(rt: HostRuntime) {
             Some(_) => Ok(true),
             None => Err(LineFault::Grammar(GrammarFault::NoBytes(1))),
         };
-        assert!(rt; read == is_read, "{line}");
+        check!(&rt; read == is_read, line);
     }
 }
 
@@ -329,11 +330,11 @@ fn replies_on_a_line(rt: HostRuntime) {
         (Reply::Removed, "removed"),
         (Reply::Absent, "absent"),
     ] {
-        assert!(rt; is_shown(rt.alloc(), &reply, wanted) == Some(true));
+        check!(&rt; is_shown(rt.alloc(), &reply, wanted) == Some(true));
     }
-    assert!(rt; are_shown(rt.alloc(), &[], "values 0") == Some(true));
+    check!(&rt; are_shown(rt.alloc(), &[], "values 0") == Some(true));
     let values = [[0x0a, 0xff].as_slice(), b""];
-    assert!(rt; are_shown(rt.alloc(), &values, "values 2 0aff -") == Some(true));
+    check!(&rt; are_shown(rt.alloc(), &values, "values 2 0aff -") == Some(true));
 }
 
 /// Checks that the bytes are written as these digits.
@@ -344,6 +345,6 @@ fn are_digits(alloc: Global, bytes: &[u8], wanted: &str) -> Option<bool> {
 
 #[test]
 fn digits_of_bytes(rt: HostRuntime) {
-    assert!(rt; are_digits(rt.alloc(), &[0, 0xab], "00ab") == Some(true));
-    assert!(rt; are_digits(rt.alloc(), &[], "-") == Some(true));
+    check!(&rt; are_digits(rt.alloc(), &[0, 0xab], "00ab") == Some(true));
+    check!(&rt; are_digits(rt.alloc(), &[], "-") == Some(true));
 }

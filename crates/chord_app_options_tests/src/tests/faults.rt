@@ -1,5 +1,6 @@
 //! Which stream gets the text of a command line that asks for help or is wrong.
 
+use crate::checks::check;
 use crate::tests::NO_COMMAND;
 use crate::tests::lines::fault_of;
 use crate::tests::serve_lines::SERVE_HELP;
@@ -8,7 +9,7 @@ use chord_app_text::{Fault, Finish};
 use std::alloc::{AllocError, Global};
 
 /// What a stream got.
-#[derive(Clone, Copy, Debug, PartialEq, Eq)]
+#[derive(Clone, Copy, PartialEq, Eq)]
 enum Got {
     Nothing,
     /// The text that the line calls for.
@@ -30,7 +31,7 @@ impl Got {
 }
 
 /// How a command line ended, and what both streams got.
-#[derive(Clone, Copy, Debug, PartialEq, Eq)]
+#[derive(Clone, Copy, PartialEq, Eq)]
 struct Written {
     ended: Result<Finish, Finish>,
     output: Got,
@@ -89,7 +90,7 @@ const LINES: &[(&str, &str, Written)] = &[
 fn streams_of_help_and_faults(rt: HostRuntime) {
     for (line, text, wanted) in LINES {
         let written = write_line(rt.alloc(), *line, text);
-        assert!(rt; written == Some(*wanted), "{line}: {written:?}");
+        check!(&rt; written == Some(*wanted), line);
     }
 }
 
@@ -104,7 +105,7 @@ fn refused_memory_is_written_nowhere(rt: HostRuntime) {
         output: Got::Nothing,
         errors: Got::Nothing,
     };
-    assert!(rt; written == wanted);
+    check!(&rt; written == wanted);
 }
 
 /// How a command line ended where one of the streams had no room.
@@ -141,11 +142,11 @@ fn a_stream_that_fails(rt: HostRuntime) {
         without_errors: Ok(Finish::Done),
     };
     let ends = write_without_room(rt.alloc(), "chord --version");
-    assert!(rt; ends == Some(help), "the version goes to the output");
+    check!(&rt; ends == Some(help), "the version goes to the output");
     let mistake = Ends {
         without_output: Ok(Finish::BadCommandLine),
         without_errors: failed,
     };
     let ends = write_without_room(rt.alloc(), "chord");
-    assert!(rt; ends == Some(mistake), "a fault goes to the errors");
+    check!(&rt; ends == Some(mistake), "a fault goes to the errors");
 }

@@ -1,5 +1,6 @@
 //! The command line of `load`.
 
+use crate::checks::check;
 use crate::tests::lines::{ReadLine, prints_usage, read_line, refused};
 use chord_app_ask::{Drops, Kind, Load, Until};
 use chord_app_options::load_of;
@@ -34,13 +35,13 @@ fn options(
 fn options_of_load(rt: HostRuntime) {
     let line = "chord load --port 1 --kind insert --requests 7";
     let wanted = ((1, 1, 1), (1000, 16), (Kind::Insert, Until::Requests(7)));
-    assert!(rt; options(rt.alloc(), line) == Some(wanted));
+    check!(&rt; options(rt.alloc(), line) == Some(wanted));
 }
 
 #[test]
 fn a_load_of_its_own(rt: HostRuntime) {
     let wanted = ((1, 1, 1), (1000, 16), (Kind::Retrieve, Until::Seconds(10)));
-    assert!(rt; options(rt.alloc(), "chord load --port 1") == Some(wanted));
+    check!(&rt; options(rt.alloc(), "chord load --port 1") == Some(wanted));
 }
 
 /// How often the load that a line asks for cuts its connections, if it does.
@@ -69,7 +70,7 @@ const CUTS: &[(&str, Option<Drops>)] = &[
 #[test]
 fn cuts_of_load(rt: HostRuntime) {
     for (line, wanted) in CUTS {
-        assert!(rt; drops(rt.alloc(), *line) == Some(*wanted), "{line}");
+        check!(&rt; drops(rt.alloc(), *line) == Some(*wanted), line);
     }
 }
 
@@ -92,7 +93,7 @@ const REFUSED: &[&str] = &[
 #[test]
 fn refused_options_of_load(rt: HostRuntime) {
     for line in REFUSED {
-        assert!(rt; refused(rt.alloc(), *line) == Some(2), "{line}");
+        check!(&rt; refused(rt.alloc(), *line) == Some(2), line);
     }
 }
 
@@ -101,5 +102,5 @@ fn a_value_size_that_is_too_great(rt: HostRuntime) {
     let line = "chord load --port 1 --value-size 4097";
     let fault = "error: invalid value '4097' for '--value-size <BYTES>': a number from 0 to 4096";
     let printed = prints_usage(rt.alloc(), line, fault, "chord load [OPTIONS] --port <N>");
-    assert!(rt; printed == Some((true, 2)));
+    check!(&rt; printed == Some((true, 2)));
 }

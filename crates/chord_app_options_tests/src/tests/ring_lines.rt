@@ -1,5 +1,6 @@
 //! The command line of `ring`.
 
+use crate::checks::check;
 use crate::tests::lines::{ReadLine, prints_usage, read_line, refused};
 use chord_app_operator::{CrashRequest, JoinRequest, StoreKind};
 use chord_app_options::ring_task_of;
@@ -84,7 +85,7 @@ fn asked(command: RingCommand, times: u64) -> RingTask {
 fn lines_of_ring(rt: HostRuntime) {
     for (line, command) in LINES {
         let task = read_line::<RingTask>(rt.alloc(), *line);
-        assert!(rt; task == Some(asked(*command, 1)), "{line}");
+        check!(&rt; task == Some(asked(*command, 1)), line);
     }
 }
 
@@ -92,16 +93,16 @@ fn lines_of_ring(rt: HostRuntime) {
 fn lines_that_show_the_ring_often(rt: HostRuntime) {
     for (line, times) in SHOWN {
         let task = read_line::<RingTask>(rt.alloc(), *line);
-        assert!(rt; task == Some(asked(RingCommand::Show, *times)), "{line}");
+        check!(&rt; task == Some(asked(RingCommand::Show, *times)), line);
     }
 }
 
 #[test]
 fn lines_of_copies(rt: HostRuntime) {
     let dump = read_line::<RingTask>(rt.alloc(), "chord ring --operator 9 dump");
-    assert!(rt; dump == Some(RingTask::Dump(9)));
+    check!(&rt; dump == Some(RingTask::Dump(9)));
     let restore = read_line::<RingTask>(rt.alloc(), "chord ring --port 7 restore");
-    assert!(rt; restore == Some(RingTask::Restore(7)));
+    check!(&rt; restore == Some(RingTask::Restore(7)));
 }
 
 /// Lines that are refused.
@@ -141,7 +142,7 @@ const REFUSED: &[&str] = &[
 #[test]
 fn refused_lines_of_ring(rt: HostRuntime) {
     for line in REFUSED {
-        assert!(rt; refused(rt.alloc(), *line) == Some(2), "{line}");
+        check!(&rt; refused(rt.alloc(), *line) == Some(2), line);
     }
 }
 
@@ -171,6 +172,6 @@ const FAULTS: &[(&str, &str)] = &[
 fn texts_of_refused_lines(rt: HostRuntime) {
     for (line, text) in FAULTS {
         let printed = prints_usage(rt.alloc(), *line, text, USAGE);
-        assert!(rt; printed == Some((true, 2)), "{line}");
+        check!(&rt; printed == Some((true, 2)), line);
     }
 }

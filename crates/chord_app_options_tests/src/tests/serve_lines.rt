@@ -1,5 +1,6 @@
 //! The command line of `serve`.
 
+use crate::checks::check;
 use crate::tests::lines::{ReadLine, prints, prints_usage, read_line};
 use chord_app_options::{number_from, serve_line_of, small_number};
 use clap::ArgMatches;
@@ -54,12 +55,12 @@ const FAULTS: &[(&str, &str)] = &[
 fn faults_of_serve(rt: HostRuntime) {
     for (line, text) in FAULTS {
         let printed = prints_usage(rt.alloc(), *line, text, USAGE);
-        assert!(rt; printed == Some((true, 2)), "{line}");
+        check!(&rt; printed == Some((true, 2)), line);
     }
 }
 
 /// What a line of `serve` says of the plan `p`.
-#[derive(Clone, Copy, Debug, PartialEq, Eq)]
+#[derive(Clone, Copy, PartialEq, Eq)]
 struct LineOfP {
     port: Option<u16>,
     redis: Option<u16>,
@@ -109,7 +110,7 @@ impl ReadLine for LineOfP {
 fn say(rt: &impl Abort, alloc: Global, rows: &[(&'static str, LineOfP)]) {
     for (line, wanted) in rows {
         let said = read_line::<LineOfP>(alloc, *line);
-        assert!(rt; said == Some(*wanted), "{line}: {said:?}");
+        check!(rt; said == Some(*wanted), line);
     }
 }
 
@@ -117,7 +118,7 @@ fn say(rt: &impl Abort, alloc: Global, rows: &[(&'static str, LineOfP)]) {
 fn are_refused(rt: &impl Abort, alloc: Global, lines: &[&'static str]) {
     for line in lines {
         let said = read_line::<LineOfP>(alloc, *line);
-        assert!(rt; said == None, "{line}: {said:?}");
+        check!(rt; said == None, line);
     }
 }
 
@@ -147,10 +148,10 @@ fn options_of_serve(rt: HostRuntime) {
 /// Ports and connections are numbers from 1 to 65,535.
 #[test]
 fn numbers_of_serve(rt: HostRuntime) {
-    assert!(rt; small_number("1") == Some(1));
-    assert!(rt; small_number("65535") == Some(65_535));
+    check!(&rt; small_number("1") == Some(1));
+    check!(&rt; small_number("65535") == Some(65_535));
     for word in ["", "0", "65536", "-1", "x", "1 "] {
-        assert!(rt; small_number(word) == None, "{word}");
+        check!(&rt; small_number(word) == None, word);
     }
 }
 
@@ -168,9 +169,9 @@ const WITHIN_3_TO_9: &[(&str, Option<u64>)] = &[
 #[test]
 fn numbers_within_limits(rt: HostRuntime) {
     for (word, number) in WITHIN_3_TO_9 {
-        assert!(rt; number_from(word, 3, 9) == *number, "{word}");
+        check!(&rt; number_from(word, 3, 9) == *number, word);
     }
-    assert!(rt; number_from("18446744073709551615", 0, u64::MAX) == Some(u64::MAX));
+    check!(&rt; number_from("18446744073709551615", 0, u64::MAX) == Some(u64::MAX));
 }
 
 #[test]
@@ -180,7 +181,7 @@ fn a_port_that_is_no_number(rt: HostRuntime) {
     let usage =
         "chord serve [OPTIONS] --plan <FILE> <--port <N>|--redis <N>> <--connections <K>|--stay>";
     let printed = prints_usage(rt.alloc(), line, fault, usage);
-    assert!(rt; printed == Some((true, 2)));
+    check!(&rt; printed == Some((true, 2)));
 }
 
 /// At port 0 the system picks one; a client may be idle for 300 seconds unless the line says
@@ -357,5 +358,5 @@ pub const SERVE_HELP: &str = concat!(
 #[test]
 fn help_of_serve(rt: HostRuntime) {
     let printed = prints(rt.alloc(), "chord serve --help", SERVE_HELP);
-    assert!(rt; printed == Some((true, 0)));
+    check!(&rt; printed == Some((true, 0)));
 }

@@ -1,6 +1,7 @@
 //! The commands `ask`, `load` and `ring` from their words on, over loopback. Their lines go to the
 //! output of the test itself; `chord_app_ask_tests` compares lines.
 
+use crate::checks::check;
 use chord_app_options::{commands, start_ask, start_load, start_ring};
 use chord_app_text::{Fault, Finish};
 use clap::ArgMatches;
@@ -146,12 +147,12 @@ const OPEN: Talk = Talk {
 fn commands_begin_a_session(rt: HostRuntime) {
     for (command, words) in [("ask", "insert a x"), ("load", "--requests 1")] {
         let ended = started(&rt, &rt, (command, words), OPEN);
-        assert!(rt;
+        check!(&rt;
             matches!(
                 ended,
                 Some((Err(Finish::Fault(Fault::NoSession { .. })), true))
             ),
-            "{command}"
+            command
         );
     }
 }
@@ -160,13 +161,13 @@ fn commands_begin_a_session(rt: HostRuntime) {
 fn commands_at_a_server(rt: HostRuntime) {
     let done = Some((Ok(Finish::Done), true));
     let asked = started(&rt, &rt, ("ask", "--no-session insert a x"), INSERT);
-    assert!(rt; asked == done, "ask sends its request in version 2");
+    check!(&rt; asked == done, "ask sends its request in version 2");
     let asked = started(&rt, &rt, ("ask", "--protocol 1 insert a x"), INSERT_1);
-    assert!(rt; asked == done, "or in version 1, if the words say so");
+    check!(&rt; asked == done, "or in version 1, if the words say so");
     let loaded = started(&rt, &rt, ("load", "--no-session --requests 1"), RETRIEVE);
-    assert!(rt; loaded == done, "load sends as many as the words say");
+    check!(&rt; loaded == done, "load sends as many as the words say");
     let dumped = started(&rt, &rt, ("ring", "dump"), PAGE);
-    assert!(rt; dumped == done, "dump asks for the first page");
+    check!(&rt; dumped == done, "dump asks for the first page");
 }
 
 /// A port at which nobody listens.
@@ -182,9 +183,9 @@ fn commands_without_a_server(rt: HostRuntime) {
     let reason = io::ErrorKind::ConnectionRefused;
     let nobody = Some(Err(Finish::Fault(Fault::Connect { port, reason })));
     let asked = start(&rt, &rt, "ask", port, "retrieve a");
-    assert!(rt; asked == nobody, "ask finds nobody");
+    check!(&rt; asked == nobody, "ask finds nobody");
     let loaded = start(&rt, &rt, "load", port, "--requests 1");
-    assert!(rt; loaded == nobody, "nor does load");
+    check!(&rt; loaded == nobody, "nor does load");
 }
 
 /// A command, and words that it refuses.
@@ -203,7 +204,7 @@ fn commands_of_wrong_words(rt: HostRuntime) {
     let port = free_port(&rt).expect(&rt, "a free port");
     for (command, words) in REFUSED {
         let ended = start(&rt, &rt, command, port, words);
-        assert!(rt; ended == Some(Ok(Finish::BadCommandLine)), "{words}");
+        check!(&rt; ended == Some(Ok(Finish::BadCommandLine)), words);
     }
 }
 
@@ -224,8 +225,8 @@ fn a_ring_that_nobody_serves(rt: HostRuntime) {
         let (ended, port) = rings_nobody(&rt, &rt, words).unwrap_or((Ok(Finish::Done), 0));
         let reason = io::ErrorKind::ConnectionRefused;
         let wanted = Err(Finish::Fault(Fault::Connect { port, reason }));
-        assert!(rt; ended == wanted, "{words}");
+        check!(&rt; ended == wanted, words);
     }
     let refused = start(&rt, &rt, "ring", 9, "leave x");
-    assert!(rt; refused == Some(Ok(Finish::BadCommandLine)));
+    check!(&rt; refused == Some(Ok(Finish::BadCommandLine)));
 }

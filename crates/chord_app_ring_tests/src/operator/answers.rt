@@ -3,6 +3,7 @@
 use super::devices::ask;
 use super::operators::RingValue;
 use super::sights::{RING_JSON, RING_METRICS, ring};
+use crate::checks::check;
 use chord_app_operator::{
     Holder, PairsRequest, ToJson, array, holder_value, id_text, metrics_text, optional, ring_text,
 };
@@ -14,13 +15,13 @@ use std::test::Fail;
 #[test]
 fn a_ring_is_the_json_of_its_nodes(rt: HostRuntime) -> Result<(), Fail> {
     let seen = ask(&rt, RingValue::new(rt.alloc()), "GET /ring", "")?;
-    assert!(rt;
+    check!(&rt;
         seen.begins(
             "HTTP/1.1 200 OK\r\ncontent-type: application/json\r\ncache-control: no-store\r\n"
         )
     );
-    assert!(rt; seen.ends(RING_JSON));
-    assert!(rt; seen.asked(b"s"), "it looks once");
+    check!(&rt; seen.ends(RING_JSON));
+    check!(&rt; seen.asked(b"s"), "it looks once");
     drop(seen);
     Ok(())
 }
@@ -28,11 +29,11 @@ fn a_ring_is_the_json_of_its_nodes(rt: HostRuntime) -> Result<(), Fail> {
 #[test]
 fn metrics_are_those_of_the_ring(rt: HostRuntime) -> Result<(), Fail> {
     let seen = ask(&rt, RingValue::new(rt.alloc()), "GET /metrics", "")?;
-    assert!(rt;
+    check!(&rt;
         seen.begins("HTTP/1.1 200 OK\r\ncontent-type: text/plain; version=0.0.4; charset=utf-8\r\n")
     );
-    assert!(rt; seen.ends(RING_METRICS));
-    assert!(rt; seen.asked(b"s"), "it looks once");
+    check!(&rt; seen.ends(RING_METRICS));
+    check!(&rt; seen.asked(b"s"), "it looks once");
     drop(seen);
     Ok(())
 }
@@ -40,12 +41,12 @@ fn metrics_are_those_of_the_ring(rt: HostRuntime) -> Result<(), Fail> {
 #[test]
 fn a_ring_with_a_staying_node_is_healthy(rt: HostRuntime) -> Result<(), Fail> {
     let seen = ask(&rt, RingValue::new(rt.alloc()), "GET /health", "")?;
-    assert!(rt;
+    check!(&rt;
         seen.got_text(
             "HTTP/1.1 200 OK\r\ncontent-type: text/plain; charset=utf-8\r\ncache-control: no-store\r\ncontent-length: 3\r\n\r\nok\n"
         )
     );
-    assert!(rt; seen.asked(b"h"));
+    check!(&rt; seen.asked(b"h"));
     drop(seen);
     Ok(())
 }
@@ -55,8 +56,8 @@ fn a_ring_without_a_staying_node_is_not_healthy(rt: HostRuntime) -> Result<(), F
     let mut operator = RingValue::new(rt.alloc());
     operator.is_healthy = false;
     let seen = ask(&rt, operator, "GET /health", "")?;
-    assert!(rt; seen.begins("HTTP/1.1 503 Service Unavailable\r\n"));
-    assert!(rt; seen.asked(b"h"));
+    check!(&rt; seen.begins("HTTP/1.1 503 Service Unavailable\r\n"));
+    check!(&rt; seen.asked(b"h"));
     drop(seen);
     Ok(())
 }
@@ -64,7 +65,7 @@ fn a_ring_without_a_staying_node_is_not_healthy(rt: HostRuntime) -> Result<(), F
 #[test]
 fn head_is_answered_as_get_without_the_body(rt: HostRuntime) -> Result<(), Fail> {
     let seen = ask(&rt, RingValue::new(rt.alloc()), "HEAD /health", "")?;
-    assert!(rt;
+    check!(&rt;
         seen.got_text(
             "HTTP/1.1 200 OK\r\ncontent-type: text/plain; charset=utf-8\r\ncache-control: no-store\r\ncontent-length: 3\r\n\r\n"
         )
@@ -76,13 +77,13 @@ fn head_is_answered_as_get_without_the_body(rt: HostRuntime) -> Result<(), Fail>
 #[test]
 fn the_page_asks_nothing_of_the_operator(rt: HostRuntime) -> Result<(), Fail> {
     let seen = ask(&rt, RingValue::new(rt.alloc()), "GET /", "")?;
-    assert!(rt;
+    check!(&rt;
         seen.begins(
             "HTTP/1.1 200 OK\r\ncontent-type: text/html; charset=utf-8\r\ncache-control: no-store\r\ncontent-security-policy: default-src 'none'; "
         )
     );
-    assert!(rt; seen.ends("</html>\n"));
-    assert!(rt; seen.asked(b""));
+    check!(&rt; seen.ends("</html>\n"));
+    check!(&rt; seen.asked(b""));
     drop(seen);
     Ok(())
 }
@@ -112,7 +113,7 @@ fn a_holder_is_a_node_or_a_handover(rt: HostRuntime) -> Result<(), Fail> {
         let seen = ask(&rt, operator, "GET /holder/abc", "")?;
         let is_told = seen.ends(end) && seen.asked(b"o");
         drop(seen);
-        assert!(rt; is_told, "{end}");
+        check!(&rt; is_told, end);
     }
     Ok(())
 }
@@ -124,7 +125,7 @@ fn a_key_is_percent_encoded(rt: HostRuntime) -> Result<(), Fail> {
     drop(seen);
     // SHA-1 of `abc` begins with these bytes.
     let abc = Id::new(0xa9993e36_4706816a_ba3e2571_7850c26c);
-    assert!(rt; held == Some(abc));
+    check!(&rt; held == Some(abc));
     Ok(())
 }
 
@@ -136,7 +137,7 @@ fn pairs_are_lines_and_the_next_identifier(rt: HostRuntime) -> Result<(), Fail> 
         "GET /pairs?limit=2&after=000000000000000000000000000000FF",
         "",
     )?;
-    assert!(rt;
+    check!(&rt;
         seen.got_text(
             "HTTP/1.1 200 OK\r\ncontent-type: application/x-ndjson\r\ncache-control: no-store\r\nchord-next: 000000000000000000000000000000ff\r\ncontent-length: 136\r\n\r\n{\"id\":\"00000000000000000000000000000001\",\"key\":\"616263\",\"value\":\"78\"}\n{\"id\":\"000000000000000000000000000000ff\",\"key\":\"\",\"value\":\"00ff\"}\n"
         )
@@ -145,7 +146,7 @@ fn pairs_are_lines_and_the_next_identifier(rt: HostRuntime) -> Result<(), Fail> 
         after: Some(Id::new(255)),
         limit: 2,
     };
-    assert!(rt; seen.operator.pairs == Some(asked));
+    check!(&rt; seen.operator.pairs == Some(asked));
     drop(seen);
     Ok(())
 }
@@ -159,7 +160,7 @@ fn a_page_has_100_pairs_without_a_limit(rt: HostRuntime) -> Result<(), Fail> {
         after: None,
         limit: 100,
     };
-    assert!(rt; pairs == Some(asked));
+    check!(&rt; pairs == Some(asked));
     Ok(())
 }
 
@@ -188,24 +189,24 @@ const DIGITS_OF_TEN: &str = "0000000000000000000000000000000a";
 fn values_are_those_of_their_types(rt: HostRuntime) {
     let alloc = rt.alloc();
     let list = [3u64, 4];
-    assert!(rt; is_written(alloc, array(alloc, &list), "[3,4]") == Some(true));
-    assert!(rt; is_written(alloc, Ok(optional(Some(3))), "3") == Some(true));
-    assert!(rt; is_written(alloc, Ok(optional(None)), "null") == Some(true));
+    check!(&rt; is_written(alloc, array(alloc, &list), "[3,4]") == Some(true));
+    check!(&rt; is_written(alloc, Ok(optional(Some(3))), "3") == Some(true));
+    check!(&rt; is_written(alloc, Ok(optional(None)), "null") == Some(true));
     let id = TEN.to_json(alloc);
-    assert!(rt; is_written(alloc, id, "\"0000000000000000000000000000000a\"") == Some(true));
+    check!(&rt; is_written(alloc, id, "\"0000000000000000000000000000000a\"") == Some(true));
     let held = holder_value(alloc, TEN, Holder::Node(2));
     let wanted = "{\"id\":\"0000000000000000000000000000000a\",\"node\":2}";
-    assert!(rt; is_written(alloc, held, wanted) == Some(true));
+    check!(&rt; is_written(alloc, held, wanted) == Some(true));
 }
 
 #[test]
 fn texts_are_those_of_the_answers(rt: HostRuntime) -> Result<(), Fail> {
-    assert!(rt; is_text(id_text(rt.alloc(), TEN), DIGITS_OF_TEN) == Some(true));
+    check!(&rt; is_text(id_text(rt.alloc(), TEN), DIGITS_OF_TEN) == Some(true));
     let sight = ring(rt.alloc())?;
     let is_ring = is_text(ring_text(rt.alloc(), &sight), RING_JSON);
     let are_metrics = is_text(metrics_text(rt.alloc(), &sight), RING_METRICS);
     drop(sight);
-    assert!(rt; is_ring == Some(true));
-    assert!(rt; are_metrics == Some(true));
+    check!(&rt; is_ring == Some(true));
+    check!(&rt; are_metrics == Some(true));
     Ok(())
 }

@@ -2,6 +2,7 @@
 
 use super::devices::{CONFLICT, NOT_FOUND, ask, serve_text};
 use super::operators::RingValue;
+use crate::checks::check;
 use chord_app_operator::{
     CrashRefusal, CrashRequest, JoinRefusal, JoinRequest, LeaveRefusal, StoreKind,
 };
@@ -23,19 +24,19 @@ fn a_join_has_what_its_body_says(rt: HostRuntime) -> Result<(), Fail> {
     let body =
         "{\"id\": \"000000000000000000000000000000fF\", \"store\": \"capped\", \"limit\": 10, \"via\": 2}";
     let seen = ask(&rt, RingValue::new(rt.alloc()), "POST /nodes", body)?;
-    assert!(rt;
+    check!(&rt;
         seen.got_text(
             "HTTP/1.1 201 Created\r\ncontent-type: application/json\r\ncache-control: no-store\r\ncontent-length: 10\r\n\r\n{\"node\":4}"
         )
     );
-    assert!(rt; seen.asked(b"j"), "it joins once");
+    check!(&rt; seen.asked(b"j"), "it joins once");
     let asked = JoinRequest {
         id: Some(Id::new(255)),
         store: StoreKind::Capped,
         limit: Some(10),
         via: Some(2),
     };
-    assert!(rt; seen.operator.join == Some(asked));
+    check!(&rt; seen.operator.join == Some(asked));
     drop(seen);
     Ok(())
 }
@@ -46,7 +47,7 @@ fn a_join_may_say_nothing(rt: HostRuntime) -> Result<(), Fail> {
         let seen = ask(&rt, RingValue::new(rt.alloc()), "POST /nodes", body)?;
         let join = seen.operator.join;
         drop(seen);
-        assert!(rt; join == Some(PLAIN_JOIN), "{body}");
+        check!(&rt; join == Some(PLAIN_JOIN), body);
     }
     Ok(())
 }
@@ -71,7 +72,7 @@ fn a_join_is_refused_by_its_name(rt: HostRuntime) -> Result<(), Fail> {
         let is_refused = seen.is_refused(rt.alloc(), status, name);
         let asks_once = seen.asked(b"j");
         drop(seen);
-        assert!(rt; is_refused? && asks_once, "{name}");
+        check!(&rt; is_refused? && asks_once, name);
     }
     Ok(())
 }
@@ -79,10 +80,10 @@ fn a_join_is_refused_by_its_name(rt: HostRuntime) -> Result<(), Fail> {
 #[test]
 fn a_node_leaves(rt: HostRuntime) -> Result<(), Fail> {
     let seen = ask(&rt, RingValue::new(rt.alloc()), "POST /nodes/12/leave", "")?;
-    assert!(rt; seen.begins("HTTP/1.1 202 Accepted\r\n"));
-    assert!(rt; seen.ends("\r\n\r\n{\"node\":12}"));
-    assert!(rt; seen.operator.left == Some(12));
-    assert!(rt; seen.asked(b"l"));
+    check!(&rt; seen.begins("HTTP/1.1 202 Accepted\r\n"));
+    check!(&rt; seen.ends("\r\n\r\n{\"node\":12}"));
+    check!(&rt; seen.operator.left == Some(12));
+    check!(&rt; seen.asked(b"l"));
     drop(seen);
     Ok(())
 }
@@ -101,7 +102,7 @@ fn a_leave_is_refused_by_its_name(rt: HostRuntime) -> Result<(), Fail> {
         let seen = ask(&rt, operator, "POST /nodes/12/leave", "")?;
         let is_refused = seen.is_refused(rt.alloc(), status, name);
         drop(seen);
-        assert!(rt; is_refused?, "{name}");
+        check!(&rt; is_refused?, name);
     }
     Ok(())
 }
@@ -126,7 +127,7 @@ fn a_node_crashes_forced_or_not(rt: HostRuntime) -> Result<(), Fail> {
             && seen.begins("HTTP/1.1 200 OK\r\n")
             && seen.ends("{\"node\":3}");
         drop(seen);
-        assert!(rt; is_as_said, "{body}");
+        check!(&rt; is_as_said, body);
     }
     Ok(())
 }
@@ -146,7 +147,7 @@ fn a_crash_is_refused_by_its_name(rt: HostRuntime) -> Result<(), Fail> {
         let seen = ask(&rt, operator, "POST /nodes/3/crash", "")?;
         let is_refused = seen.is_refused(rt.alloc(), status, name);
         drop(seen);
-        assert!(rt; is_refused?, "{name}");
+        check!(&rt; is_refused?, name);
     }
     Ok(())
 }
@@ -154,12 +155,12 @@ fn a_crash_is_refused_by_its_name(rt: HostRuntime) -> Result<(), Fail> {
 #[test]
 fn a_server_stops(rt: HostRuntime) -> Result<(), Fail> {
     let seen = ask(&rt, RingValue::new(rt.alloc()), "POST /stop", "")?;
-    assert!(rt;
+    check!(&rt;
         seen.got_text(
             "HTTP/1.1 202 Accepted\r\ncontent-type: text/plain; charset=utf-8\r\ncache-control: no-store\r\ncontent-length: 9\r\n\r\nstopping\n"
         )
     );
-    assert!(rt; seen.asked(b"t"));
+    check!(&rt; seen.asked(b"t"));
     drop(seen);
     Ok(())
 }
@@ -176,7 +177,7 @@ fn requests_of_one_connection_are_asked_in_order(rt: HostRuntime) -> Result<(), 
     let seen = serve_text(&rt, RingValue::new(rt.alloc()), THREE_REQUESTS)?;
     let are_asked = seen.asked(b"hjt");
     drop(seen);
-    assert!(rt; are_asked);
+    check!(&rt; are_asked);
     Ok(())
 }
 
@@ -188,7 +189,7 @@ fn a_look_without_memory_is_refused(rt: HostRuntime) -> Result<(), Fail> {
         let seen = ask(&rt, operator, line, "")?;
         let is_refused = seen.is_refused(rt.alloc(), NO_MEMORY, "Memory");
         drop(seen);
-        assert!(rt; is_refused?, "{line}");
+        check!(&rt; is_refused?, line);
     }
     Ok(())
 }

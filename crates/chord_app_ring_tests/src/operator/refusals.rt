@@ -2,6 +2,7 @@
 
 use super::devices::{Exchange, NOT_FOUND, ask, ask_with_fields, serve_bytes, serve_text};
 use super::operators::RingValue;
+use crate::checks::check;
 use std::alloc::Global;
 use std::test::Fail;
 
@@ -133,7 +134,7 @@ fn a_wrong_method_is_told_the_right_ones(rt: HostRuntime) -> Result<(), Fail> {
         let seen = ask(&rt, RingValue::new(rt.alloc()), line, "")?;
         let are_told = tells_methods(rt.alloc(), &seen, allow);
         drop(seen);
-        assert!(rt; are_told?, "{line}");
+        check!(&rt; are_told?, line);
     }
     Ok(())
 }
@@ -182,7 +183,7 @@ fn the_own_origin_acts(rt: HostRuntime) -> Result<(), Fail> {
         let seen = ask_with_fields(&rt, "POST /nodes/0/leave", origin)?;
         let is_done = seen.begins("HTTP/1.1 202 Accepted\r\n") && seen.asked(b"l");
         drop(seen);
-        assert!(rt; is_done, "{origin}");
+        check!(&rt; is_done, origin);
     }
     Ok(())
 }
@@ -204,7 +205,7 @@ fn a_foreign_host_does_nothing(rt: HostRuntime) -> Result<(), Fail> {
         let seen = serve_text(&rt, RingValue::new(rt.alloc()), sent)?;
         let is_refused = seen.ends("{\"refused\":\"ForeignHost\"}") && seen.asked(b"");
         drop(seen);
-        assert!(rt; is_refused, "{sent}");
+        check!(&rt; is_refused, sent);
     }
     Ok(())
 }
@@ -222,7 +223,7 @@ fn the_own_hosts_are_answered(rt: HostRuntime) -> Result<(), Fail> {
         let seen = serve_text(&rt, RingValue::new(rt.alloc()), sent)?;
         let is_answered = seen.begins("HTTP/1.1 200 OK\r\n") && seen.asked(b"h");
         drop(seen);
-        assert!(rt; is_answered, "{sent}");
+        check!(&rt; is_answered, sent);
     }
     Ok(())
 }
@@ -245,11 +246,11 @@ fn a_body_has_at_most_4096_bytes(rt: HostRuntime) -> Result<(), Fail> {
     let seen = join_of_length(&rt, 4096)?;
     let is_done = seen.begins("HTTP/1.1 201 Created\r\n") && seen.asked(b"j");
     drop(seen);
-    assert!(rt; is_done, "4096");
+    check!(&rt; is_done, "4096");
     let seen = join_of_length(&rt, 4097)?;
     let is_refused = seen.begins("HTTP/1.1 413 Payload Too Large\r\n") && seen.asked(b"");
     drop(seen);
-    assert!(rt; is_refused, "4097");
+    check!(&rt; is_refused, "4097");
     Ok(())
 }
 

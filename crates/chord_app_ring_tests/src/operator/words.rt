@@ -1,6 +1,7 @@
 //! Words, and what a request reads as.
 
 use super::sights::ring;
+use crate::checks::check;
 use bytes::Bytes;
 use chord_app_operator::{
     CrashRefusal, Fault, JoinRefusal, JoinRequest, LeaveRefusal, Measure, OperatorCall, Pair,
@@ -14,29 +15,29 @@ use std::test::Fail;
 
 #[test]
 fn words_are_those_of_the_page(rt: HostRuntime) -> Result<(), Fail> {
-    assert!(rt; Phase::Leaving.word() == "leaving");
-    assert!(rt; StoreKind::Capped.word() == "capped");
-    assert!(rt; StoreKind::of_word("list") == Some(StoreKind::List));
-    assert!(rt; StoreKind::of_word("List").is_none());
-    assert!(rt; Verb::Look.allows("HEAD") && !Verb::Act.allows("GET"));
-    assert!(rt; Verb::Act.allowed_text() == "POST");
-    assert!(rt; Fault::BadVia.name() == "BadVia");
-    assert!(rt; JoinRefusal::NoSlot.name() == "NoSlot");
-    assert!(rt; LeaveRefusal::NotStaying.name() == "NotStaying");
-    assert!(rt; CrashRefusal::Unsafe.name() == "Unsafe");
-    assert!(rt; Refusal::Bad(Fault::BadId).name() == "BadId");
-    assert!(rt; Refusal::Crash(CrashRefusal::NoSuchNode).status().as_u16() == 404);
+    check!(&rt; Phase::Leaving.word() == "leaving");
+    check!(&rt; StoreKind::Capped.word() == "capped");
+    check!(&rt; StoreKind::of_word("list") == Some(StoreKind::List));
+    check!(&rt; StoreKind::of_word("List").is_none());
+    check!(&rt; Verb::Look.allows("HEAD") && !Verb::Act.allows("GET"));
+    check!(&rt; Verb::Act.allowed_text() == "POST");
+    check!(&rt; Fault::BadVia.name() == "BadVia");
+    check!(&rt; JoinRefusal::NoSlot.name() == "NoSlot");
+    check!(&rt; LeaveRefusal::NotStaying.name() == "NotStaying");
+    check!(&rt; CrashRefusal::Unsafe.name() == "Unsafe");
+    check!(&rt; Refusal::Bad(Fault::BadId).name() == "BadId");
+    check!(&rt; Refusal::Crash(CrashRefusal::NoSuchNode).status().as_u16() == 404);
     Ok(())
 }
 
 #[test]
 fn paths_name_resources(rt: HostRuntime) -> Result<(), Fail> {
     let alloc = rt.alloc();
-    assert!(rt; Resource::of_path(alloc, "/nodes/7/leave")? == Some(Resource::Leave(7)));
-    assert!(rt; Resource::of_path(alloc, "/nodes")? == Some(Resource::Nodes));
-    assert!(rt; Resource::of_path(alloc, "/node")?.is_none());
-    assert!(rt; Resource::Stop.verb() == Verb::Act);
-    assert!(rt; Resource::Pairs.verb() == Verb::Look);
+    check!(&rt; Resource::of_path(alloc, "/nodes/7/leave")? == Some(Resource::Leave(7)));
+    check!(&rt; Resource::of_path(alloc, "/nodes")? == Some(Resource::Nodes));
+    check!(&rt; Resource::of_path(alloc, "/node")?.is_none());
+    check!(&rt; Resource::Stop.verb() == Verb::Act);
+    check!(&rt; Resource::Pairs.verb() == Verb::Look);
     Ok(())
 }
 
@@ -46,7 +47,7 @@ fn queries_and_objects_are_read(rt: HostRuntime) -> Result<(), Fail> {
         after: None,
         limit: 1000,
     };
-    assert!(rt; PairsRequest::of_query(Some("limit=1000")) == Ok(asked));
+    check!(&rt; PairsRequest::of_query(Some("limit=1000")) == Ok(asked));
     let value = Value::from_str(rt.alloc(), "{\"via\":3}")?;
     let read = JoinRequest::of_object(&value);
     drop(value);
@@ -56,7 +57,7 @@ fn queries_and_objects_are_read(rt: HostRuntime) -> Result<(), Fail> {
         limit: None,
         via: Some(3),
     };
-    assert!(rt; read == Ok(asked));
+    check!(&rt; read == Ok(asked));
     Ok(())
 }
 
@@ -79,11 +80,11 @@ fn read_health(alloc: Global, site: &Site) -> Option<Result<OperatorCall, Refusa
 fn a_site_reads_calls(rt: HostRuntime) -> Result<(), Fail> {
     let alloc = rt.alloc();
     let site = Site::new(alloc, 80)?;
-    assert!(rt; site.is_own_host(b"localhost:80") && !site.is_own_host(b"localhost"));
-    assert!(rt; site.is_own_origin(b"http://127.0.0.1:80") && !site.is_own_origin(b"127.0.0.1:80"));
+    check!(&rt; site.is_own_host(b"localhost:80") && !site.is_own_host(b"localhost"));
+    check!(&rt; site.is_own_origin(b"http://127.0.0.1:80") && !site.is_own_origin(b"127.0.0.1:80"));
     let read = read_health(alloc, &site);
     drop(site);
-    assert!(rt; read == Some(Ok(OperatorCall::Health)));
+    check!(&rt; read == Some(Ok(OperatorCall::Health)));
     Ok(())
 }
 
@@ -95,9 +96,9 @@ fn measures_are_of_a_node(rt: HostRuntime) -> Result<(), Fail> {
         None => 0,
     };
     drop(sight);
-    assert!(rt; told == 100);
-    assert!(rt; Measure::Taken.before_node() == "chord_handovers_total{node=\"");
-    assert!(rt; Measure::Taken.after_node() == "\",kind=\"taken\"} ");
+    check!(&rt; told == 100);
+    check!(&rt; Measure::Taken.before_node() == "chord_handovers_total{node=\"");
+    check!(&rt; Measure::Taken.after_node() == "\",kind=\"taken\"} ");
     Ok(())
 }
 
@@ -197,6 +198,6 @@ fn a_pair_is_a_line(rt: HostRuntime) -> Result<(), Fail> {
     let is_line = text.as_str()
         == "{\"id\":\"00000000000000000000000000000002\",\"key\":\"6b\",\"value\":\"\"}\n";
     drop(text);
-    assert!(rt; is_line);
+    check!(&rt; is_line);
     Ok(())
 }

@@ -2,6 +2,7 @@
 
 use super::requests::{CRASH, PLAIN_JOIN};
 use super::streams::MadeStream;
+use crate::checks::check;
 use chord_app_ring::{RingCommand, RingFault, Told, exchange, told_of};
 use std::alloc::{AllocError, Global};
 use std::test::Fail;
@@ -81,7 +82,7 @@ fn what_is_done_is_told_in_a_line(rt: HostRuntime) -> Result<(), Fail> {
         let text = answer(alloc, line, body)?;
         for step in [1, 5, 4096] {
             let told = told(alloc, &command, text.as_bytes(), step);
-            assert!(rt; tells_line(told, alloc, wanted), "{wanted}");
+            check!(&rt; tells_line(told, alloc, wanted), wanted);
         }
         drop(text);
     }
@@ -144,7 +145,7 @@ fn answers_of_other_framings(rt: HostRuntime) -> Result<(), Fail> {
             );
             let is_joined = matches!(&told, Ok(Told::Joined(4)));
             drop(told);
-            assert!(rt; is_joined, "{text}");
+            check!(&rt; is_joined, text);
         }
     }
     Ok(())
@@ -211,7 +212,7 @@ fn what_is_not_understood(rt: HostRuntime) -> Result<(), Fail> {
         let told = told(rt.alloc(), command, text.as_bytes(), 4096);
         let is_not_understood = matches!(&told, Err(RingFault::NotUnderstood));
         drop(told);
-        assert!(rt; is_not_understood, "{text}");
+        check!(&rt; is_not_understood, text);
     }
     Ok(())
 }
@@ -260,7 +261,7 @@ fn a_refusal_has_its_name(rt: HostRuntime) -> Result<(), Fail> {
         let of_leave = is_refused(rt.alloc(), &RingCommand::Leave(2), &text, name);
         let of_show = is_refused(rt.alloc(), &RingCommand::Show, &text, name);
         drop(text);
-        assert!(rt; of_leave && of_show, "{name}");
+        check!(&rt; of_leave && of_show, name);
     }
     Ok(())
 }
@@ -268,5 +269,5 @@ fn a_refusal_has_its_name(rt: HostRuntime) -> Result<(), Fail> {
 #[test]
 fn a_refusal_without_a_body_is_of_memory(rt: HostRuntime) {
     let text = "HTTP/1.1 507 Insufficient Storage\r\ncontent-length: 0\r\n\r\n";
-    assert!(rt; is_refused(rt.alloc(), &RingCommand::Show, text, "Memory"));
+    check!(&rt; is_refused(rt.alloc(), &RingCommand::Show, text, "Memory"));
 }

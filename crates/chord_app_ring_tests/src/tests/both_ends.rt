@@ -4,6 +4,7 @@ use super::answers::told;
 use super::operators::NotingOperator;
 use super::requests::{CRASH, FORCED_CRASH, PLAIN_JOIN, WHOLE_JOIN, bytes_of};
 use super::streams::MadeStream;
+use crate::checks::check;
 use chord_app_operator::{CrashRequest, OperatorService, PairsRequest};
 use chord_app_ring::{
     Page, RingCommand, RingFault, Told, exchange_pairs, insert_of_line, page_of, pairs_bytes,
@@ -117,8 +118,8 @@ fn ask(rt: &HostRuntime, command: &RingCommand) -> Result<Exchange, Fail> {
 fn a_join_comes_through(rt: HostRuntime) -> Result<(), Fail> {
     for request in [PLAIN_JOIN, WHOLE_JOIN] {
         let seen = ask(&rt, &RingCommand::Join(request))?;
-        assert!(rt; seen.operator.join == Some(request));
-        assert!(rt; seen.heard == Heard::Joined(4));
+        check!(&rt; seen.operator.join == Some(request));
+        check!(&rt; seen.heard == Heard::Joined(4));
     }
     Ok(())
 }
@@ -131,8 +132,8 @@ fn a_leave_comes_through(rt: HostRuntime) -> Result<(), Fail> {
         (9_999_999_999, Heard::Leaving(9_999_999_999)),
     ] {
         let seen = ask(&rt, &RingCommand::Leave(node))?;
-        assert!(rt; seen.operator.left == Some(node));
-        assert!(rt; seen.heard == heard);
+        check!(&rt; seen.operator.left == Some(node));
+        check!(&rt; seen.heard == heard);
     }
     Ok(())
 }
@@ -149,8 +150,8 @@ fn a_crash_comes_through(rt: HostRuntime) -> Result<(), Fail> {
         (unforced, Heard::Unsafe),
     ] {
         let seen = ask(&rt, &RingCommand::Crash(request))?;
-        assert!(rt; seen.operator.crash == Some(request));
-        assert!(rt; seen.heard == heard);
+        check!(&rt; seen.operator.crash == Some(request));
+        check!(&rt; seen.heard == heard);
     }
     Ok(())
 }
@@ -158,10 +159,10 @@ fn a_crash_comes_through(rt: HostRuntime) -> Result<(), Fail> {
 #[test]
 fn a_look_and_a_stop_come_through(rt: HostRuntime) -> Result<(), Fail> {
     let seen = ask(&rt, &RingCommand::Show)?;
-    assert!(rt; seen.heard == Heard::Ring(4));
+    check!(&rt; seen.heard == Heard::Ring(4));
     let seen = ask(&rt, &RingCommand::Stop)?;
-    assert!(rt; seen.operator.is_stopped);
-    assert!(rt; seen.heard == Heard::Stopping);
+    check!(&rt; seen.operator.is_stopped);
+    check!(&rt; seen.heard == Heard::Stopping);
     Ok(())
 }
 
@@ -223,9 +224,9 @@ fn a_page_comes_through(rt: HostRuntime) -> Result<(), Fail> {
     for after in [None, Some(Id { number: 7 }), Some(a)] {
         let request = request_behind(after);
         let seen = ask_page(&rt, request)?;
-        assert!(rt; seen.asked == Some(request));
-        assert!(rt; seen.next == Some(a));
-        assert!(rt; seen.inserts_x);
+        check!(&rt; seen.asked == Some(request));
+        check!(&rt; seen.next == Some(a));
+        check!(&rt; seen.inserts_x);
     }
     Ok(())
 }

@@ -1,6 +1,7 @@
 //! The command `dump`: at a scripted server, and by pages that are plain values.
 
 use super::loopback::Command;
+use crate::checks::check;
 use chord_app_operator::PairsRequest;
 use chord_app_ring::{
     DumpFault, PAGE_TRIES, Page, PageTeller, PageTurn, RingFault, dump, id_in, request_behind,
@@ -38,7 +39,7 @@ fn three_pages_are_copied(rt: HostRuntime) {
         (THIRD, LAST_PAGE),
     ];
     let ran = Command::Dump.run_at(&rt, rt.alloc(), &talks, ("one\ntwo\nthree\n", ""));
-    assert!(rt; ran == Some((Ok(Finish::Done), true, true)), "{ran:?}");
+    check!(&rt; ran == Some((Ok(Finish::Done), true, true)));
 }
 
 #[test]
@@ -49,7 +50,7 @@ fn a_page_under_way_comes_later(rt: HostRuntime) {
         (SECOND, LAST_PAGE),
     ];
     let ran = Command::Dump.run_at(&rt, rt.alloc(), &talks, ("one\ntwthree\n", ""));
-    assert!(rt; ran == Some((Ok(Finish::Done), true, true)), "{ran:?}");
+    check!(&rt; ran == Some((Ok(Finish::Done), true, true)));
 }
 
 /// Second answers whose next page can't follow: its identifier is cut, lies before the page, is the
@@ -67,7 +68,7 @@ fn a_copy_ends_at_an_answer_that_is_not_understood(rt: HostRuntime) {
     for answer in NOT_UNDERSTOOD {
         let talks = [(FIRST, FIRST_PAGE), (SECOND, *answer)];
         let ran = Command::Dump.run_at(&rt, rt.alloc(), &talks, ("one\ntw", ""));
-        assert!(rt; ran == wanted, "what came before stays written: {ran:?}");
+        check!(&rt; ran == wanted, "what came before stays written");
     }
 }
 
@@ -77,7 +78,7 @@ fn a_copy_ends_at_an_answer_that_is_cut(rt: HostRuntime) {
     let talks = [(FIRST, FIRST_PAGE), (SECOND, cut.as_slice())];
     let ran = Command::Dump.run_at(&rt, rt.alloc(), &talks, ("one\ntw", ""));
     let wanted = Some((Err(Finish::Fault(Fault::Lost)), true, true));
-    assert!(rt; ran == wanted, "what came before stays written: {ran:?}");
+    check!(&rt; ran == wanted, "what came before stays written");
 }
 
 #[test]
@@ -86,7 +87,7 @@ fn a_copy_ends_at_a_refusal(rt: HostRuntime) {
     let talks = [(FIRST, FIRST_PAGE), (SECOND, refused.as_slice())];
     let ran = Command::Dump.run_at(&rt, rt.alloc(), &talks, ("one\ntw", "refused Memory\n"));
     let wanted = Some((Err(Finish::Refused), true, true));
-    assert!(rt; ran == wanted, "what came before stays written: {ran:?}");
+    check!(&rt; ran == wanted, "what came before stays written");
 }
 
 /// Tells that pairs are under way at each try, and counts them.
@@ -125,8 +126,8 @@ fn a_page_under_way_may_never_come(rt: HostRuntime) {
     drop(dumped);
     let is_empty = written.is_empty();
     drop(written);
-    assert!(rt; is_under_way);
-    assert!(rt; pages.asked == PAGE_TRIES && is_empty);
+    check!(&rt; is_under_way);
+    check!(&rt; pages.asked == PAGE_TRIES && is_empty);
 }
 
 /// Identifiers behind which a page is asked for, and what follows it if it goes on behind 5 and has
@@ -154,7 +155,7 @@ fn turn(alloc: Global, after: Option<Id>) -> Option<PageTurn> {
 fn what_follows_a_page(rt: HostRuntime) {
     for (after, wanted) in TURNS {
         let turn = turn(rt.alloc(), after.map(Id::new));
-        assert!(rt; turn == *wanted, "{after:?}");
+        check!(&rt; turn == *wanted);
     }
 }
 

@@ -1,6 +1,7 @@
 //! The lines of an input.
 
 use super::streams::MadeStream;
+use crate::checks::check;
 use chord_app_ring::{RestoreFault, next_line};
 use chord_app_text::PairFault;
 use std::alloc::{AllocError, Global};
@@ -137,9 +138,9 @@ fn of_length(alloc: Global, length: usize) -> Result<Next, AllocError> {
 #[test]
 fn a_line_has_a_greatest_length(rt: HostRuntime) -> Result<(), Fail> {
     let longest = of_length(rt.alloc(), 8_763)?;
-    assert!(rt; longest == Next::Line, "{longest:?}");
+    check!(&rt; longest == Next::Line);
     let longer = of_length(rt.alloc(), 8_764)?;
     let too_long = Next::Fault(RestoreFault::Pair(PairFault::LineLong));
-    assert!(rt; longer == too_long, "{longer:?}");
+    check!(&rt; longer == too_long);
     Ok(())
 }

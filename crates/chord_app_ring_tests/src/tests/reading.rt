@@ -1,6 +1,7 @@
 //! A ring is read as it was written.
 
 use super::sights::ring;
+use crate::checks::check;
 use chord_app_operator::{RingSight, ring_text};
 use chord_app_ring::{OfJson, ReadFault, member, ring_of_text};
 use serde_json::Value;
@@ -41,7 +42,7 @@ fn a_ring_is_read_back(rt: HostRuntime) -> Result<(), Fail> {
     let text = text_of_ring(rt.alloc())?;
     let is_read = is_read_back_twice(rt.alloc(), &text);
     drop(text);
-    assert!(rt; is_read?);
+    check!(&rt; is_read?);
     Ok(())
 }
 
@@ -66,7 +67,7 @@ fn a_ring_that_is_read_is_the_same(rt: HostRuntime) -> Result<(), Fail> {
     let text = text_of_ring(rt.alloc())?;
     let is_same = is_ring(rt.alloc(), &text);
     drop(text);
-    assert!(rt; is_same == Some(true));
+    check!(&rt; is_same == Some(true));
     Ok(())
 }
 
@@ -107,7 +108,7 @@ fn a_text_that_is_cut_is_not_understood(rt: HostRuntime) -> Result<(), Fail> {
     let text = text_of_ring(rt.alloc())?;
     let understood = understood_at(rt.alloc(), &text);
     drop(text);
-    assert!(rt; understood == None, "{understood:?}");
+    check!(&rt; understood == None);
     Ok(())
 }
 
@@ -172,9 +173,9 @@ fn members_and_lists(rt: HostRuntime) -> Result<(), Fail> {
     let value = Value::from_str(rt.alloc(), "{\"a\":[1,2],\"b\":7}")?;
     let members = members_of(rt.alloc(), &value);
     drop(value);
-    assert!(rt; members.is_list);
-    assert!(rt; members.b == Ok(7));
-    assert!(rt; members.c == Err(ReadFault::NotUnderstood));
-    assert!(rt; members.whole == Err(ReadFault::NotUnderstood));
+    check!(&rt; members.is_list);
+    check!(&rt; members.b == Ok(7));
+    check!(&rt; members.c == Err(ReadFault::NotUnderstood));
+    check!(&rt; members.whole == Err(ReadFault::NotUnderstood));
     Ok(())
 }

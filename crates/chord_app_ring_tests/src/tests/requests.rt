@@ -1,6 +1,7 @@
 //! What is sent for each command.
 
 use super::streams::MadeStream;
+use crate::checks::check;
 use chord_app_operator::{CrashRequest, JoinRequest, PairsRequest, StoreKind};
 use chord_app_ring::{
     RingCommand, RingFault, exchange, pairs_path, request_body, request_bytes, request_path,
@@ -84,7 +85,7 @@ fn each_command_sends_its_request(rt: HostRuntime) -> Result<(), Fail> {
         let sent = bytes_of(rt.alloc(), &command)?;
         let is_its = sent.as_slice() == text.as_bytes();
         drop(sent);
-        assert!(rt; is_its, "{text}");
+        check!(&rt; is_its, text);
     }
     Ok(())
 }
@@ -95,12 +96,12 @@ fn paths_and_bodies(rt: HostRuntime) -> Result<(), Fail> {
     let path = request_path(rt.alloc(), &command)?;
     let is_path = path.as_str() == "/nodes/7/crash";
     drop(path);
-    assert!(rt; is_path);
+    check!(&rt; is_path);
     let body = request_body(rt.alloc(), &command)?;
     let is_body = body.as_str() == "{\"force\":true}";
     drop(body);
-    assert!(rt; is_body);
-    assert!(rt; command.method() == "POST" && command.good_status() == 200);
+    check!(&rt; is_body);
+    check!(&rt; command.method() == "POST" && command.good_status() == 200);
     Ok(())
 }
 
@@ -128,7 +129,7 @@ fn paths_of_pages(rt: HostRuntime) -> Result<(), Fail> {
         let path = pairs_path(rt.alloc(), request)?;
         let is_its = path.as_str() == wanted;
         drop(path);
-        assert!(rt; is_its, "{wanted}");
+        check!(&rt; is_its, wanted);
     }
     Ok(())
 }
@@ -148,8 +149,8 @@ fn a_request_goes_over_the_stream(rt: HostRuntime) {
     let is_lost = is_lost(rt.alloc(), &mut stream, &RingCommand::Leave(12));
     let is_sent = stream.sent.as_slice() == SENT[3].1.as_bytes();
     drop(stream);
-    assert!(rt; is_lost);
-    assert!(rt; is_sent);
+    check!(&rt; is_lost);
+    check!(&rt; is_sent);
 }
 
 #[test]
@@ -157,5 +158,5 @@ fn a_stream_that_takes_nothing_is_lost(rt: HostRuntime) {
     let mut deaf = MadeStream::deaf(rt.alloc());
     let is_lost = is_lost(rt.alloc(), &mut deaf, &RingCommand::Show);
     drop(deaf);
-    assert!(rt; is_lost);
+    check!(&rt; is_lost);
 }

@@ -1,6 +1,7 @@
 //! The command `restore`: in memory, and at a scripted server.
 
 use super::loopback::Command;
+use crate::checks::check;
 use chord_app_operator::{Pair, pair_lines};
 use chord_app_ring::{LINE_BYTES, RestoreFault, Unrestored, restore};
 use chord_app_text::{Fault, Finish, InsertFault, PairFault};
@@ -51,8 +52,8 @@ fn restores(
 #[test]
 fn pairs_are_inserted_in_order(rt: HostRuntime) {
     let restored = restores(rt.alloc(), PAIRS.as_bytes(), ANSWERS);
-    assert!(rt; restored == (Ok(2), Some(FRAMES.len())), "{restored:?}");
-    assert!(rt; restores(rt.alloc(), b"", b"") == (Ok(0), Some(0)));
+    check!(&rt; restored == (Ok(2), Some(FRAMES.len())));
+    check!(&rt; restores(rt.alloc(), b"", b"") == (Ok(0), Some(0)));
 }
 
 /// Lines, and why they are no pairs.
@@ -118,9 +119,9 @@ fn wrong_lines(rt: HostRuntime) -> Result<(), Fail> {
             line: 2,
             fault: RestoreFault::Pair(*why),
         };
-        assert!(rt;
+        check!(&rt;
             restored == (Err(wanted), Some(FIRST_FRAME)),
-            "{line} {restored:?}"
+            line
         );
     }
     Ok(())
@@ -133,7 +134,7 @@ fn a_line_that_is_cut(rt: HostRuntime) {
         line: 2,
         fault: RestoreFault::Pair(PairFault::LineCut),
     };
-    assert!(rt; cut == (Err(wanted), Some(FIRST_FRAME)), "{cut:?}");
+    check!(&rt; cut == (Err(wanted), Some(FIRST_FRAME)));
 }
 
 #[test]
@@ -145,7 +146,7 @@ fn a_line_that_is_longer_than_any_pair(rt: HostRuntime) -> Result<(), Fail> {
         line: 1,
         fault: RestoreFault::Pair(PairFault::LineLong),
     };
-    assert!(rt; long == (Err(wanted), Some(0)));
+    check!(&rt; long == (Err(wanted), Some(0)));
     Ok(())
 }
 
@@ -198,10 +199,9 @@ fn refused_inserts(rt: HostRuntime) -> Result<(), Fail> {
             line: 2,
             fault: RestoreFault::Insert(*why),
         };
-        assert!(rt;
-            restored == (Err(wanted), Some(FRAMES.len())),
-            "{restored:?}"
-        );
+        check!(&rt;
+            restored == (Err(wanted), Some(FRAMES.len()))
+    );
     }
     Ok(())
 }
@@ -307,8 +307,8 @@ fn a_copy_is_restored(rt: HostRuntime) -> Result<(), Fail> {
     let is_restored = is_restored(alloc, &copied);
     drop(copied);
     put?;
-    assert!(rt; have_frames);
-    assert!(rt; is_restored?);
+    check!(&rt; have_frames);
+    check!(&rt; is_restored?);
     Ok(())
 }
 
@@ -326,12 +326,12 @@ fn ends_of_a_restore(rt: HostRuntime) {
         let talks = [(&FRAMES[..FIRST_FRAME], answer)];
         let command = Command::Restore(FIRST_PAIR);
         let ran = command.run_at(&rt, rt.alloc(), &talks, (wanted, ""));
-        assert!(rt; ran == Some((finish, true, true)), "{ran:?}");
+        check!(&rt; ran == Some((finish, true, true)));
     }
 }
 
 #[test]
 fn a_restore_without_a_server(rt: HostRuntime) {
     let is_told = Command::Restore(FIRST_PAIR).finds_nobody(&rt, rt.alloc());
-    assert!(rt; is_told == Some(true), "nobody listens");
+    check!(&rt; is_told == Some(true), "nobody listens");
 }

@@ -1,6 +1,7 @@
 //! The whole command, over loopback.
 
 use super::loopback::Command;
+use crate::checks::check;
 use chord_app_ring::RingCommand;
 use chord_app_text::{Fault, Finish};
 
@@ -23,7 +24,7 @@ fn the_ring_is_shown_again(rt: HostRuntime) -> Result<(), std::alloc::AllocError
     let talks = [(look, EMPTY), (look, EMPTY)];
     let ran = command.run_at(&rt, rt.alloc(), &talks, (&twice, ""));
     drop(twice);
-    assert!(rt; ran == Some((Ok(Finish::Done), true, true)), "{ran:?}");
+    check!(&rt; ran == Some((Ok(Finish::Done), true, true)));
     Ok(())
 }
 
@@ -45,12 +46,12 @@ fn ends_of_the_command(rt: HostRuntime) {
     let asked: &[u8] = b"POST /nodes/3/leave HTTP/1.1\r\n";
     for (answer, lines, finish) in ENDS {
         let ran = leave.run_at(&rt, rt.alloc(), &[(asked, *answer)], *lines);
-        assert!(rt; ran == Some((*finish, true, true)), "{ran:?}");
+        check!(&rt; ran == Some((*finish, true, true)));
     }
 }
 
 #[test]
 fn nobody_listens(rt: HostRuntime) {
     let is_told = Command::Ask(RingCommand::Show, 3).finds_nobody(&rt, rt.alloc());
-    assert!(rt; is_told == Some(true), "nobody listens");
+    check!(&rt; is_told == Some(true), "nobody listens");
 }

@@ -1,6 +1,7 @@
 //! A ring as a table, and shares of the circle.
 
 use super::sights::{QUARTER, ring, span};
+use crate::checks::check;
 use chord_app_operator::SegmentSight;
 use chord_app_ring::{RingTable, Stretch, hundredths};
 use std::test::Fail;
@@ -23,7 +24,7 @@ fn the_table_of_a_ring(rt: HostRuntime) -> Result<(), Fail> {
     let text = text?;
     let is_table = text.as_str() == TABLE;
     drop(text);
-    assert!(rt; is_table);
+    check!(&rt; is_table);
     Ok(())
 }
 
@@ -47,14 +48,14 @@ fn shares_of_the_circle(rt: HostRuntime) -> Result<(), Fail> {
         kept: 3,
     };
     let none: [SegmentSight; 0] = [];
-    assert!(rt; hundredths(&none) == 0);
-    assert!(rt; hundredths(&[whole]) == 10_000);
-    assert!(rt; hundredths(&[quarter]) == 2_500);
-    assert!(rt; hundredths(&[one]) == 0);
-    assert!(rt; hundredths(&[without_one]) == 9_999);
-    assert!(rt; hundredths(&[without_one, one]) == 10_000);
-    assert!(rt; hundredths(&[whole, quarter, whole]) == 22_500);
+    check!(&rt; hundredths(&none) == 0);
+    check!(&rt; hundredths(&[whole]) == 10_000);
+    check!(&rt; hundredths(&[quarter]) == 2_500);
+    check!(&rt; hundredths(&[one]) == 0);
+    check!(&rt; hundredths(&[without_one]) == 9_999);
+    check!(&rt; hundredths(&[without_one, one]) == 10_000);
+    check!(&rt; hundredths(&[whole, quarter, whole]) == 22_500);
     let stretch = Stretch::NONE.with(span(1, 3)).with(span(3, 4));
-    assert!(rt; stretch == Stretch { turns: 0, rest: 3 } && stretch.hundredths() == 0);
+    check!(&rt; stretch == Stretch { turns: 0, rest: 3 } && stretch.hundredths() == 0);
     Ok(())
 }

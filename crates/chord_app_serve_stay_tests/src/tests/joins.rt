@@ -1,5 +1,6 @@
 //! Nodes that an operator makes join, leave and crash while clients ask.
 
+use crate::checks::check;
 use crate::tests::operators::{Call, NO_SLOT, PLAIN, unanswered};
 use crate::tests::players::{Deed, Played, Player, Told, serve_player};
 use crate::tests::stays::WAITS;
@@ -290,12 +291,12 @@ fn nodes_come_and_go_while_clients_ask(rt: HostRuntime) -> Result<(), Fail> {
     let played = serve_player(&rt, rt.alloc(), size, &Discard, player);
     let (is_well, joined) = joined_of(played).expect(&rt, "memory and ports for a server");
     let Joined { x, y, operated } = joined;
-    assert!(rt;
+    check!(&rt;
         operated.unwrap_or(Some((99, 99))) == None,
         "each call of the operator"
     );
-    assert!(rt; x.unwrap_or(0) > 0, "each answer about x");
-    assert!(rt; y.unwrap_or(0) > 0, "each answer about y");
-    assert!(rt; is_well, "the server ends well");
+    check!(&rt; x.unwrap_or(0) > 0, "each answer about x");
+    check!(&rt; y.unwrap_or(0) > 0, "each answer about y");
+    check!(&rt; is_well, "the server ends well");
     Ok(())
 }

@@ -1,5 +1,6 @@
 //! Redis's clients over loopback, alone and beside clients that speak in frames.
 
+use crate::checks::check;
 use crate::tests::players::{Deed, Player, follow, serve_player};
 use crate::tests::stays::WAITS;
 use chord_app_serve_testkit::{
@@ -83,7 +84,7 @@ fn connections_of_both_doors_are_counted_together(rt: HostRuntime) {
     let player = Player::new(Deed::Script(ONE_AT_EACH_DOOR));
     let player = (player, Ending::Connections(2));
     let played = serve_player(&rt, rt.alloc(), BOTH, &Discard, player);
-    assert!(rt; look_at(rt.alloc(), played, lines) == Some(GOOD));
+    check!(&rt; look_at(rt.alloc(), played, lines) == Some(GOOD));
 }
 
 /// Bytes that are no command, after one that is.
@@ -120,7 +121,7 @@ fn redis_clients_alone(rt: HostRuntime) {
     let player = (Player::new(Deed::Script(CROWDED)), Ending::Connections(2));
     let played = serve_player(&rt, rt.alloc(), REDIS, &Discard, player);
     let lines = "connection 0 protocol\nconnection 1 callersspent\n";
-    assert!(rt; look_at(rt.alloc(), played, lines) == Some(GOOD));
+    check!(&rt; look_at(rt.alloc(), played, lines) == Some(GOOD));
 }
 
 /// How often a server that takes some connections reads each of them.
@@ -141,5 +142,5 @@ pub fn pings_until_the_end<R: Net>(rt: &R, alloc: Global, redis: SocketAddr) -> 
 fn a_connection_ends_behind_its_last_read(rt: HostRuntime) {
     let player = (Player::new(Deed::Pings), Ending::Connections(1));
     let played = serve_player(&rt, rt.alloc(), REDIS, &Discard, player);
-    assert!(rt; look_at(rt.alloc(), played, "connection 0 turnsspent\n") == Some(GOOD));
+    check!(&rt; look_at(rt.alloc(), played, "connection 0 turnsspent\n") == Some(GOOD));
 }

@@ -1,5 +1,6 @@
 //! Bytes of Redis's clients that are cut off, that pass a limit, or whose answers nobody reads.
 
+use crate::checks::check;
 use crate::tests::players::{Deed, Player, serve_player};
 use crate::tests::stays::WAITS;
 use chord_app_serve_testkit::{
@@ -218,7 +219,7 @@ fn hostile_bytes_of_redis_clients(rt: HostRuntime) -> Result<(), Fail> {
     let ending = Ending::Connections(CUTS.len() + LIMITS.len());
     let player = (Player::new(Deed::Hostile), ending);
     let played = serve_player(&rt, rt.alloc(), size, &Discard, player);
-    assert!(rt; look_at(rt.alloc(), played, lines.as_str()) == Some(GOOD));
+    check!(&rt; look_at(rt.alloc(), played, lines.as_str()) == Some(GOOD));
     drop(lines);
     Ok(())
 }
@@ -274,6 +275,6 @@ fn a_redis_client_that_does_not_read_is_left(rt: HostRuntime) -> Result<(), Fail
     let player = Player::with_end(Deed::RedisReadsNoMore, WAITS, io::pipe(&rt)?);
     let played = serve_player(&rt, rt.alloc(), ROOMY, &Discard, player);
     let lines = "connection 1 ended\nconnection 0 write\n";
-    assert!(rt; look_at(rt.alloc(), played, lines) == Some(GOOD));
+    check!(&rt; look_at(rt.alloc(), played, lines) == Some(GOOD));
     Ok(())
 }

@@ -1,5 +1,6 @@
 //! Many sessions of one server: loads whose connections are cut, and more sessions than callers.
 
+use crate::checks::check;
 use crate::tests::players::{Deed, Played, Player, Told, serve_player};
 use crate::tests::stays::WAITS;
 use chord_app_ask::{Drops, Kind, Load, Tokens, Until, run_load};
@@ -328,7 +329,7 @@ fn old_sessions_are_dropped_in_order(rt: HostRuntime) -> Result<(), Fail> {
     };
     let player = Player::with_end(Deed::Resume, keeping(1), io::pipe(&rt)?);
     let played = serve_player(&rt, rt.alloc(), size, &Discard, player);
-    assert!(rt; look_at(rt.alloc(), played, lines.as_str()) == Some(GOOD));
+    check!(&rt; look_at(rt.alloc(), played, lines.as_str()) == Some(GOOD));
     drop(lines);
     Ok(())
 }

@@ -2,6 +2,7 @@
 //! the others are answered. With ample memory nothing is refused; the toolchain's failing
 //! allocations refuse one.
 
+use crate::checks::check;
 use crate::tests::stays::{WAITS, stay_over};
 use chord_app_plan::Plan;
 use chord_app_serve_testkit::{Handle, bound, plan_with};
@@ -115,11 +116,11 @@ fn a_refused_growth_ends_one_connection(rt: HostRuntime) -> Result<(), Fail> {
     };
     if server.end.is_ok() {
         let cut_off = 3usize.saturating_sub(answered);
-        assert!(rt; server.lines == 4);
-        assert!(rt; cut_off <= server.refused);
-        assert!(rt; server.refused <= 1);
+        check!(&rt; server.lines == 4);
+        check!(&rt; cut_off <= server.refused);
+        check!(&rt; server.refused <= 1);
     } else {
-        assert!(rt; server.end == Err(Finish::OutOfMemory));
+        check!(&rt; server.end == Err(Finish::OutOfMemory));
     }
     Ok(())
 }

@@ -1,5 +1,6 @@
 //! The command `serve --stay` over loopback.
 
+use crate::checks::check;
 use crate::tests::players::{Deed, Player, follow, serve_player};
 use chord_app_plan::Plan;
 use chord_app_serve::{ServerStores, stay};
@@ -110,11 +111,11 @@ fn a_caller_that_is_taken(rt: HostRuntime) -> Result<(), Fail> {
     let deed = Deed::Script(CROWDED);
     let player = Player::with_end(deed, WAITS, io::pipe(&rt)?);
     let played = serve_player(&rt, rt.alloc(), SMALL, &notes, player);
-    assert!(rt; look_at(rt.alloc(), played, wanted) == Some(GOOD));
+    check!(&rt; look_at(rt.alloc(), played, wanted) == Some(GOOD));
     let noted: Vec<u8> = notes.into_inner();
     let wanted =
         "[INFO  chord] connection 1 callersspent\n[INFO  chord] connection 0 ended\n[INFO  chord] connection 2 ended\n";
-    assert!(rt; noted.as_slice() == wanted.as_bytes());
+    check!(&rt; noted.as_slice() == wanted.as_bytes());
     Ok(())
 }
 
@@ -243,6 +244,6 @@ fn stays_without_room<R: Handle + Net<Listener = TcpListener, Stream = TcpStream
 #[test]
 fn a_line_that_is_not_written(rt: HostRuntime) -> Result<(), Fail> {
     let stayed = stays_without_room(&rt, rt.alloc(), io::pipe(&rt)?);
-    assert!(rt; stayed == Some(Err(Finish::Fault(Fault::Write))));
+    check!(&rt; stayed == Some(Err(Finish::Fault(Fault::Write))));
     Ok(())
 }

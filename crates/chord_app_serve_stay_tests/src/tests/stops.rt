@@ -1,6 +1,7 @@
 //! A server that stays, and a client that asks for much and does not read: the server is stopped,
 //! or it leaves the client, which was idle for too long.
 
+use crate::checks::check;
 use crate::tests::operators::{Call, PLAIN, each_is_answered};
 use crate::tests::players::{Deed, Player, serve_player};
 use crate::tests::stays::WAITS;
@@ -52,7 +53,7 @@ const ROOMY: Size = Size {
 fn a_client_that_does_not_read_is_left(rt: HostRuntime) -> Result<(), Fail> {
     let player = Player::with_end(Deed::ReadsNoMore, WAITS, io::pipe(&rt)?);
     let played = serve_player(&rt, rt.alloc(), ROOMY, &Discard, player);
-    assert!(rt; look_at(rt.alloc(), played, "connection 0 write\n") == Some(GOOD));
+    check!(&rt; look_at(rt.alloc(), played, "connection 0 write\n") == Some(GOOD));
     Ok(())
 }
 
@@ -91,6 +92,6 @@ fn a_client_that_does_not_read_is_idle(rt: HostRuntime) -> Result<(), Fail> {
     };
     let player = Player::with_end(Deed::IsLeft, seconds, io::pipe(&rt)?);
     let played = serve_player(&rt, rt.alloc(), size, &Discard, player);
-    assert!(rt; look_at(rt.alloc(), played, "connection 0 idle\n") == Some(GOOD));
+    check!(&rt; look_at(rt.alloc(), played, "connection 0 idle\n") == Some(GOOD));
     Ok(())
 }

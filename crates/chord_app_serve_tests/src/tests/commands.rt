@@ -1,5 +1,6 @@
 //! The commands `ask` and `load` over loopback, with a ring of two nodes behind the server.
 
+use crate::checks::check;
 use chord_app_ask::{ClientOptions, Kind, Load, Tokens, Until, ask_lines, run_load};
 use chord_app_serve_testkit::{
     Addresses, Ending, Handle, SMALL, Size, all_bound, end_waiting, plan_with, serve_at,
@@ -135,7 +136,7 @@ fn each_kind_of_request(rt: HostRuntime) -> Result<(), Fail> {
         ((2, 16, 3), tokens),
     ] {
         let asked = asks_a_ring(&rt, rt.alloc(), 4, 1, how, tokens, (REQUESTS, REPLIES));
-        assert!(rt; asked == Some((Ok(Finish::Done), true)));
+        check!(&rt; asked == Some((Ok(Finish::Done), true)));
     }
     Ok(())
 }
@@ -149,7 +150,7 @@ fn a_line_outside_the_grammar(rt: HostRuntime) {
         line: 2,
         why: WordFault::NoKey,
     }));
-    assert!(rt; asked == Some((fault, true)));
+    check!(&rt; asked == Some((fault, true)));
 }
 
 /// A full store refuses each try. With window 1 the next request goes over another connection.
@@ -159,7 +160,7 @@ fn a_full_store(rt: HostRuntime) {
     let unanswered = Finish::Fault(Fault::Unanswered(1));
     for (connections, how) in [(2, (1, 1, 2)), (2, (2, 1, 2)), (1, (2, 16, 2))] {
         let asked = asks_a_ring(&rt, rt.alloc(), 0, connections, how, None, lines);
-        assert!(rt; asked == Some((Ok(unanswered), true)));
+        check!(&rt; asked == Some((Ok(unanswered), true)));
     }
 }
 
@@ -243,6 +244,6 @@ fn loads_of_a_ring(rt: HostRuntime) {
         };
         let load = LoadOf { kind, counts };
         let ended = ran(&rt, rt.alloc(), room, 2, Command::Load(load));
-        assert!(rt; ended == Some((Ok(finish), true)));
+        check!(&rt; ended == Some((Ok(finish), true)));
     }
 }

@@ -1,5 +1,6 @@
 //! The command `run`.
 
+use crate::checks::check;
 use crate::tests::no_memory::NoMemory;
 use chord_app_plan::Plan;
 use chord_app_serve::{AskResult, run};
@@ -48,7 +49,7 @@ fn plan_run(rt: HostRuntime) {
         (0, "0 1 full\n"),
     ] {
         let ran = runs(&rt, rt.alloc(), TWO_NODES, room, wanted);
-        assert!(rt; ran == Some((Finish::Done, true)));
+        check!(&rt; ran == Some((Finish::Done, true)));
     }
 }
 
@@ -75,7 +76,7 @@ fn runs_without_memory<R: Threads + Wait + Clock + Sync>(
 #[test]
 fn a_request_without_an_answer(rt: HostRuntime) {
     let ran = runs_without_memory(&rt, rt.alloc(), "0 1 noanswer\n");
-    assert!(rt; ran == Some((Finish::Done, true)));
+    check!(&rt; ran == Some((Finish::Done, true)));
 }
 
 /// A plan in which the second caller asks twice, for another key.
@@ -93,7 +94,7 @@ const TWO_CALLERS: &str = concat!(
 fn callers_ask_their_own(rt: HostRuntime) {
     let wanted = "0 1 added\n1 1 added\n1 2 values 1 79\n";
     let ran = runs(&rt, rt.alloc(), TWO_CALLERS, 4, wanted);
-    assert!(rt; ran == Some((Finish::Done, true)));
+    check!(&rt; ran == Some((Finish::Done, true)));
 }
 
 /// How a plan ended whose second node the ring refuses, and whether it wrote nothing.
@@ -108,7 +109,7 @@ fn refused_node(rt: HostRuntime) {
         number: 1,
         first: 0,
     });
-    assert!(rt; runs_refused(&rt, rt.alloc()) == Some((fault, true)));
+    check!(&rt; runs_refused(&rt, rt.alloc()) == Some((fault, true)));
 }
 
 /// Checks the words that a line has for this end of an ask.
@@ -124,12 +125,12 @@ fn is_told(alloc: Global, ended: AskResult, wanted: &str) -> bool {
 fn words_of_a_line(rt: HostRuntime) {
     let alloc = rt.alloc();
     let set_full = AskResult::Reply(Reply::SetFull);
-    assert!(rt;
+    check!(&rt;
         is_told(alloc, set_full, "setfull"),
         "a reply by its own words"
     );
-    assert!(rt; is_told(alloc, AskResult::Full, "full"), "a full store");
-    assert!(rt;
+    check!(&rt; is_told(alloc, AskResult::Full, "full"), "a full store");
+    check!(&rt;
         is_told(alloc, AskResult::NoAnswer, "noanswer"),
         "no answer"
     );

@@ -1,5 +1,6 @@
 //! The command `serve --connections` over loopback.
 
+use crate::checks::check;
 use chord_app_serve_testkit::{
     Act, Acts, Addresses, Answer, Ask, Ending, Found, GOOD, Handle, SMALL, Size, Written,
     all_bound, ask, bound, changed, do_acts, end_waiting, expect, expect_end, fill, insert, leave,
@@ -128,11 +129,11 @@ fn loopback_server(rt: HostRuntime) {
     let wanted =
         "connection 0 ended\nconnection 1 truncated\nconnection 2 malformed 1\nconnection 3 callersspent\n";
     let found = served(&rt, alloc, (3, 4), &notes, Clients::Acting(FOUR), wanted);
-    assert!(rt; found == Some(GOOD));
+    check!(&rt; found == Some(GOOD));
     let noted: Vec<u8> = notes.into_inner();
     let wanted =
         "[INFO  chord] connection 0 ended\n[INFO  chord] connection 1 truncated\n[INFO  chord] connection 2 malformed 1\n[INFO  chord] connection 3 callersspent\n";
-    assert!(rt; noted.as_slice() == wanted.as_bytes());
+    check!(&rt; noted.as_slice() == wanted.as_bytes());
 }
 
 /// Refused bytes, another version, half of a frame, a client that never reads, and one that resets
@@ -167,7 +168,7 @@ fn faulty_clients(rt: HostRuntime) {
         ),
     ] {
         let found = served(&rt, rt.alloc(), counts, &Discard, clients, wanted);
-        assert!(rt; found == Some(GOOD), "{wanted}");
+        check!(&rt; found == Some(GOOD), wanted);
     }
 }
 
@@ -342,7 +343,7 @@ fn sixty_four_at_once(rt: HostRuntime) {
         Clients::SixtyFour,
         ends.as_str(),
     );
-    assert!(rt; found == Some(GOOD));
+    check!(&rt; found == Some(GOOD));
 }
 
 /// A client sends half of a frame that inserts `x` under `abc`, and another client is served
@@ -405,7 +406,7 @@ fn a_full_store_is_told_by_fault_10(rt: HostRuntime) {
     let clients = Clients::Acting(TWICE_FULL);
     let lines = "connection 0 ended\n";
     let found = served_by(&rt, rt.alloc(), (size, 1), &Discard, clients, lines);
-    assert!(rt; found == Some(GOOD));
+    check!(&rt; found == Some(GOOD));
 }
 
 /// How many values of 4,096 bytes are put under one key.
@@ -486,7 +487,7 @@ fn keeps_answers<R: Handle + Net<Listener = TcpListener, Stream = TcpStream>>(
 
 #[test]
 fn answers_before_a_refused_frame(rt: HostRuntime) {
-    assert!(rt; keeps_answers(&rt, rt.alloc()) == Some(GOOD));
+    check!(&rt; keeps_answers(&rt, rt.alloc()) == Some(GOOD));
 }
 
 /// Why a plan is not served whose second node the ring refuses.
@@ -512,7 +513,7 @@ fn served_refused_node(rt: HostRuntime) {
         number: 1,
         first: 0,
     });
-    assert!(rt; not_served(&rt, rt.alloc()) == Some(fault));
+    check!(&rt; not_served(&rt, rt.alloc()) == Some(fault));
 }
 
 /// Whether listening at a taken port says so, and succeeds once the port is free.
@@ -528,7 +529,7 @@ fn listens<R: Net<Listener = TcpListener, Stream = TcpStream>>(rt: &R) -> Option
 
 #[test]
 fn a_port_that_is_taken(rt: HostRuntime) {
-    assert!(rt; listens(&rt) == Some((true, true)));
+    check!(&rt; listens(&rt) == Some((true, true)));
 }
 
 /// Whether the system picks a port.
@@ -541,5 +542,5 @@ fn picks_a_port<R: Net<Listener = TcpListener, Stream = TcpStream>>(rt: &R) -> O
 
 #[test]
 fn the_system_picks_a_port(rt: HostRuntime) {
-    assert!(rt; picks_a_port(&rt) == Some(true));
+    check!(&rt; picks_a_port(&rt) == Some(true));
 }

@@ -1,5 +1,6 @@
 //! Sessions of clients that lose their connections, over loopback.
 
+use crate::checks::check;
 use crate::tests::servers::{Clients, served};
 use chord_app_serve_testkit::{Act, Acts, Answer, Ask, GOOD};
 use chord_wire::FaultCode;
@@ -34,7 +35,7 @@ fn a_session_outlives_its_connections(rt: HostRuntime) {
         "connection 0 ended\nconnection 1 ended\nconnection 2 ended\nconnection 3 malformed 14\n";
     let clients = Clients::Acting(RESUMED);
     let found = served(&rt, rt.alloc(), (4, 4), &Discard, clients, wanted);
-    assert!(rt; found == Some(GOOD));
+    check!(&rt; found == Some(GOOD));
 }
 
 /// A client resumes its session before the server noticed that the older connection was lost. The
@@ -60,7 +61,7 @@ fn an_older_connection_of_a_session_ends(rt: HostRuntime) {
         "connection 0 ended\nconnection 1 ended\nconnection 2 malformed 13\nconnection 3 ended\nconnection 4 malformed 13\n";
     let clients = Clients::Acting(OLDER_ENDS);
     let found = served(&rt, rt.alloc(), (5, 5), &Discard, clients, wanted);
-    assert!(rt; found == Some(GOOD));
+    check!(&rt; found == Some(GOOD));
 }
 
 /// Without a session no connection may send a close, nor an open behind its first request; and the
@@ -86,5 +87,5 @@ fn frames_of_sessions_have_their_places(rt: HostRuntime) {
     let wanted = "connection 0 malformed 16\nconnection 1 malformed 16\nconnection 2 malformed 2\n";
     let clients = Clients::Acting(OUT_OF_PLACE);
     let found = served(&rt, rt.alloc(), (3, 3), &Discard, clients, wanted);
-    assert!(rt; found == Some(GOOD));
+    check!(&rt; found == Some(GOOD));
 }

@@ -6,6 +6,7 @@ use super::workers::{Deed, with_a_worker};
 use super::{
     Known, Said, Store, ask, begin, call, founded, only_call, parts_with, said_by, settings,
 };
+use crate::checks::check;
 use chord_live::{Caller, OpenCaller};
 use chord_live_ring::{Ring, RingParts};
 use chord_live_types::{AskFault, CollectFault, LeaveFault, WaitFault};
@@ -81,14 +82,14 @@ fn fill<J: Naming, S: EntryStore, R: Abort + Wait + Clock>(
     one: &mut Caller<'_, J, S>,
 ) {
     let added = ask(rt, zero, 0, Request::insert(alloc, b"a", b"x"));
-    assert!(rt; added == Ok(Said::Added), "a node with room adds a pair");
+    check!(rt; added == Ok(Said::Added), "a node with room adds a pair");
     let full = ask(rt, one, 0, Request::insert(alloc, b"a", b"y"));
-    assert!(rt;
+    check!(rt;
         full == Err(AskFault::Wait(WaitFault::Full)),
         "a full store answers Full"
     );
     let is_pending = one.is_pending(1);
-    assert!(rt;
+    check!(rt;
         is_pending,
         "a request that was answered Full stays pending"
     );
@@ -102,20 +103,20 @@ fn make_room<J: Naming, S: EntryStore, R: Abort + Wait + Clock>(
     one: &mut Caller<'_, J, S>,
 ) {
     let removed = ask(rt, zero, 0, Request::remove(alloc, b"a", b"x"));
-    assert!(rt; removed == Ok(Said::Removed), "a pair is removed");
+    check!(rt; removed == Ok(Said::Removed), "a pair is removed");
     let retried = said_by(one.retry(rt, 0, 1));
-    assert!(rt;
+    check!(rt;
         retried == Ok(Said::Added),
         "there is room for a request that was Full"
     );
     let collected = said_by(one.collect(rt, 1));
-    assert!(rt;
+    check!(rt;
         collected == Ok(Said::Added),
         "a reply that came can be collected"
     );
-    assert!(rt; zero.floor() == 2, "both replies of caller 0 came");
-    assert!(rt; zero.mine().len() == 2, "and it keeps both calls");
-    assert!(rt;
+    check!(rt; zero.floor() == 2, "both replies of caller 0 came");
+    check!(rt; zero.mine().len() == 2, "and it keeps both calls");
+    check!(rt;
         one.mine().len() == 1,
         "a request that was sent again is one call"
     );
@@ -129,26 +130,26 @@ fn collect_turned<J: Naming, S: EntryStore, R: Abort + Wait + Clock>(
 ) {
     let mut two = ring.open_caller(rt, 2).expect(rt, "a third caller");
     let first = begin(rt, &mut two, 0, Request::retrieve(alloc, b"a"));
-    assert!(rt; first == Ok(1), "the first request has number 1");
+    check!(rt; first == Ok(1), "the first request has number 1");
     let second = begin(rt, &mut two, 0, Request::retrieve(alloc, b"a"));
-    assert!(rt; second == Ok(2), "the second request has number 2");
+    check!(rt; second == Ok(2), "the second request has number 2");
     let collected = said_by(two.collect(rt, 2));
-    assert!(rt;
+    check!(rt;
         collected == Ok(Said::OnlyY),
         "the second may be collected first"
     );
     let collected = said_by(two.collect(rt, 1));
-    assert!(rt;
+    check!(rt;
         collected == Ok(Said::OnlyY),
         "the first may be collected later"
     );
     let collected = said_by(two.collect(rt, 3));
-    assert!(rt;
+    check!(rt;
         collected == Err(CollectFault::NotBegun),
         "a request that was not begun is not collected"
     );
     let called = call(rt, &mut two, 0, Request::retrieve(alloc, b"a"));
-    assert!(rt;
+    check!(rt;
         called == Ok(Said::OnlyY),
         "a request that is carried is answered"
     );
@@ -163,14 +164,14 @@ fn tell<J: Naming, S: EntryStore, R: Abort>(
 ) {
     let note = one.show().expect(rt, "memory for a note");
     let is_met = zero.meet(note).is_ok();
-    assert!(rt; is_met, "there is memory to meet a note");
+    check!(rt; is_met, "there is memory to meet a note");
     let told = only_call(zero.told());
     let added = Known {
         caller: 1,
         number: 1,
         said: Said::Added,
     };
-    assert!(rt;
+    check!(rt;
         told == Some(added),
         "a caller learns the calls of a note that it meets"
     );
@@ -198,21 +199,21 @@ fn crash<J: Naming, S: EntryStore, R: Abort + Wait + Clock>(
     zero: &mut Caller<'_, J, S>,
 ) {
     let seen = ask(rt, zero, 0, Request::retrieve(alloc, b"a"));
-    assert!(rt; seen == Ok(Said::OnlyY), "a node that lives answers");
+    check!(rt; seen == Ok(Said::OnlyY), "a node that lives answers");
     zero.look();
     let crashed = ring.crash(rt, 0);
-    assert!(rt; crashed == Ok(()), "a node crashes");
+    check!(rt; crashed == Ok(()), "a node crashes");
     let again = ring.crash(rt, 0);
-    assert!(rt; again == Ok(()), "a crashed node may crash again");
+    check!(rt; again == Ok(()), "a crashed node may crash again");
     let left = ring.leave(rt, 0);
-    assert!(rt;
+    check!(rt;
         left == Err(LeaveFault::NotStaying),
         "a crashed node does not leave"
     );
     let ticked = ring.tick(rt, 0);
-    assert!(rt; ticked.is_ok(), "a crashed node may be ticked");
+    check!(rt; ticked.is_ok(), "a crashed node may be ticked");
     let unheard = ask(rt, zero, 0, Request::retrieve(alloc, b"a"));
-    assert!(rt;
+    check!(rt;
         unheard == Err(AskFault::Wait(WaitFault::NoAnswer)),
         "a crashed node does not answer"
     );

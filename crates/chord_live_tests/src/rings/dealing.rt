@@ -2,6 +2,7 @@
 ghost use Rattle.std.specs.Prelude.{◌≤◌};
 
 use super::{C, ONE, Said, ZERO, said_in};
+use crate::checks::check;
 use chord_caller::Ask;
 use chord_handover::Ticket;
 use chord_ident::Id;
@@ -60,16 +61,16 @@ fn tidies(alloc: Global) -> Option<TidiedAlone> {
 #[test]
 fn a_node_alone_tidies(rt: HostRuntime) {
     let tidied = tidies(rt.alloc()).expect(&rt, "memory for a node");
-    assert!(rt;
+    check!(&rt;
         tidied.first == Some(Tidied::Cut),
         "a segment around the predecessor is cut there"
     );
-    assert!(rt;
+    check!(&rt;
         tidied.second == Some(Tidied::Give(0)),
         "a segment that is not its own is to be given"
     );
-    assert!(rt; tidied.leaves == Ok(()), "a staying node begins to leave");
-    assert!(rt;
+    check!(&rt; tidied.leaves == Ok(()), "a staying node begins to leave");
+    check!(&rt;
         tidied.third == Some(Tidied::Nothing),
         "a leaving node tidies nothing"
     );
@@ -154,13 +155,13 @@ fn a_call_is_answered_to_its_caller(rt: HostRuntime) {
         number: 1,
         said: Said::Added,
     };
-    assert!(rt; dealt.first == added, "a reply goes to its caller");
+    check!(&rt; dealt.first == added, "a reply goes to its caller");
     let full = Dealt::Full {
         to: 7,
         caller: 7,
         number: 2,
     };
-    assert!(rt; dealt.second == full, "so does that the store is full");
+    check!(&rt; dealt.second == full, "so does that the store is full");
 }
 
 /// What the node sends for a call with this number and key that comes with its key's identifier.
@@ -192,7 +193,7 @@ fn a_call_with_its_identifier_is_answered(rt: HostRuntime) {
         number: 1,
         said: Said::Added,
     };
-    assert!(rt; dealt == added, "its reply goes to its caller");
+    check!(&rt; dealt == added, "its reply goes to its caller");
 }
 
 /// Which of nodes 0 and 1 a message is for.
@@ -218,7 +219,7 @@ fn a_message_is_for_the_node_that_it_names(rt: HostRuntime) {
         zero: true,
         one: true,
     };
-    assert!(rt; is_for_each(Message::Ask(ask)) == any, "a call is for any");
+    check!(&rt; is_for_each(Message::Ask(ask)) == any, "a call is for any");
     let handover = Ticket {
         from: 0,
         to: 1,
@@ -228,11 +229,11 @@ fn a_message_is_for_the_node_that_it_names(rt: HostRuntime) {
         zero: true,
         one: false,
     };
-    assert!(rt;
+    check!(&rt;
         is_for_each(Message::Got(handover)) == giver,
         "a Got is for the giver"
     );
-    assert!(rt;
+    check!(&rt;
         is_for_each(Message::Declined(handover)) == giver,
         "a Declined is too"
     );
@@ -244,7 +245,7 @@ fn a_message_is_for_the_node_that_it_names(rt: HostRuntime) {
         zero: false,
         one: false,
     };
-    assert!(rt;
+    check!(&rt;
         is_for_each(full) == none,
         "what is for a caller is for none"
     );
@@ -261,5 +262,5 @@ fn drops(alloc: Global) -> Dealt {
 #[test]
 fn a_newborn_node_drops_a_call(rt: HostRuntime) {
     let dealt = drops(rt.alloc());
-    assert!(rt; dealt == Dealt::Nothing, "it sends nothing");
+    check!(&rt; dealt == Dealt::Nothing, "it sends nothing");
 }

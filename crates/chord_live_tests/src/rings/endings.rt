@@ -3,6 +3,7 @@ ghost use Rattle.std.specs.Prelude.{◌≡◌};
 
 use super::refusals::{join, peer};
 use super::{C, Said, call, founded, parts_with, settings};
+use crate::checks::check;
 use chord_live::{Caller, OpenCaller};
 use chord_live_ring::{ReturnedCaller, Ring, RingParts};
 use chord_map::Request;
@@ -109,9 +110,9 @@ fn asked<'a, J: Naming, R: Abort + Wait + Clock>(
     let mut first = ring.open_caller(rt, 1).expect(rt, "a caller");
     let mut second = ring.open_caller(rt, 1).expect(rt, "a second caller");
     let added = call(rt, &mut first, 0, Request::insert(alloc, b"abc", b"x"));
-    assert!(rt; added == Ok(Said::Added), "the first adds a pair");
+    check!(rt; added == Ok(Said::Added), "the first adds a pair");
     let present = call(rt, &mut second, 0, Request::insert(alloc, b"abc", b"x"));
-    assert!(rt; present == Ok(Said::Present), "the second finds it");
+    check!(rt; present == Ok(Said::Present), "the second finds it");
     (first, second)
 }
 
@@ -126,9 +127,9 @@ fn ring_and_callers<J: Naming, R: Abort + Wait + Clock>(
 {
     let ring = founded::<J, CappedStore, R>(rt, parts, CappedStore::new(alloc, 1));
     let joined = join(rt, alloc, &ring, C, 0);
-    assert!(rt; joined == Ok(peer(1, C)), "a second node joins");
+    check!(rt; joined == Ok(peer(1, C)), "a second node joins");
     let crashed = ring.crash(rt, 1);
-    assert!(rt; crashed == Ok(()), "it crashes");
+    check!(rt; crashed == Ok(()), "it crashes");
     let (first, second) = asked(rt, alloc, &ring);
     let callers = given_back(alloc, first, second, back).expect(rt, "memory for two");
     (ring, callers)

@@ -4,6 +4,7 @@ ghost use Rattle.std.specs.Prelude.{◌≡◌, []};
 
 use super::workers::{Deed, with_a_worker};
 use super::{A, C, Known, Said, ask, begin, only_call, said_by, settings, succeeds};
+use crate::checks::check;
 use chord_caller::SubmitFault;
 use chord_ident::Id;
 use chord_live::{Caller, OpenCaller};
@@ -26,7 +27,7 @@ use std::time::Clock;
 fn refused_growths_of_a_ring(rt: HostRuntime) {
     match unnamed(rt.alloc(), settings(2, 2, 20, 50)) {
         Ok(parts) => two_nodes::<Brand, _>(&rt, rt.alloc(), parts),
-        Err(_) => assert!(rt; false, "a ring is made at the second try"),
+        Err(_) => check!(&rt; false, "a ring is made at the second try"),
     }
 }
 
@@ -34,7 +35,7 @@ fn refused_growths_of_a_ring(rt: HostRuntime) {
 fn refused_growths_of_a_client(rt: HostRuntime) {
     match unnamed(rt.alloc(), settings(1, 1, 1, 1)) {
         Ok(parts) => one_client::<Brand, _>(&rt, parts),
-        Err(_) => assert!(rt; false, "a ring is made at the second try"),
+        Err(_) => check!(&rt; false, "a ring is made at the second try"),
     }
 }
 
@@ -64,8 +65,8 @@ fn one_client<J: Naming, R: Abort + Wait>(rt: &R, parts: RingParts)
     let is_opened = is_opened(rt, &ring);
     let spent = ring.open_client(rt, 1).err();
     ring.close();
-    assert!(rt; is_opened, "a client is opened at the second try");
-    assert!(rt;
+    check!(rt; is_opened, "a client is opened at the second try");
+    check!(rt;
         spent == Some(OpenClientFault::CallersSpent),
         "there is no number for another one"
     );
@@ -113,16 +114,16 @@ fn is_seen<J: Naming, S: EntryStore>(rt: &impl Wait, alloc: Global, ring: &Ring<
 /// Adds two nodes, and does three rounds of ticks.
 fn settle<J: Naming, R: Abort + Wait>(rt: &R, alloc: Global, ring: &Ring<J, CappedStore>) {
     let is_created = created(rt, ring, CappedStore::new(alloc, 4));
-    assert!(rt; is_created, "node 0 is created at the second try");
+    check!(rt; is_created, "node 0 is created at the second try");
     let is_joined = joined(rt, ring, CappedStore::new(alloc, 4));
-    assert!(rt; is_joined, "node 1 joins at the second try");
+    check!(rt; is_joined, "node 1 joins at the second try");
     for _ in 0..3u64 {
         let zero = ticked(rt, ring, 0);
-        assert!(rt; zero.is_ok(), "node 0 is ticked at the second try");
+        check!(rt; zero.is_ok(), "node 0 is ticked at the second try");
         let one = ticked(rt, ring, 1);
-        assert!(rt; one.is_ok(), "node 1 is ticked at the second try");
+        check!(rt; one.is_ok(), "node 1 is ticked at the second try");
     }
-    assert!(rt;
+    check!(rt;
         is_seen(rt, alloc, ring),
         "node 1 is seen at the second try"
     );
@@ -151,20 +152,20 @@ pub fn use_the_ring<J: Naming, S: EntryStore, R: Abort + Wait + Clock>(
     ring: &Ring<J, S>,
 ) {
     let Ok(mut zero) = ring.open_caller(rt, 4) else {
-        assert!(rt; false, "a caller is opened");
+        check!(rt; false, "a caller is opened");
         return;
     };
     let Ok(mut one) = ring.open_caller(rt, 4) else {
-        assert!(rt; false, "a second caller is opened");
+        check!(rt; false, "a second caller is opened");
         drop(zero);
         return;
     };
     let added = added(rt, alloc, &mut zero);
-    assert!(rt;
+    check!(rt;
         added == Some(Said::Added),
         "an insert is answered, at the third try at most"
     );
-    assert!(rt; zero.floor() == 1, "it was one request");
+    check!(rt; zero.floor() == 1, "it was one request");
     see(rt, alloc, &mut one);
     let told = told(&mut zero, &mut one);
     drop(one);
@@ -174,7 +175,7 @@ pub fn use_the_ring<J: Naming, S: EntryStore, R: Abort + Wait + Clock>(
         number: 1,
         said: Said::Added,
     };
-    assert!(rt;
+    check!(rt;
         told == Some(insert),
         "a caller learns the call of the other's note"
     );
@@ -238,9 +239,9 @@ fn see<J: Naming, S: EntryStore, R: Abort + Wait + Clock>(
     if begun == Err(BeginFault::Submit(SubmitFault::Memory)) {
         begun = begin(rt, caller, 0, Request::retrieve(alloc, b"b"));
     }
-    assert!(rt; begun == Ok(1), "a retrieve is begun at the second try");
+    check!(rt; begun == Ok(1), "a retrieve is begun at the second try");
     let seen = collected(rt, caller);
-    assert!(rt;
+    check!(rt;
         seen == Some(Said::OnlyX),
         "its reply comes, at the third try at most"
     );

@@ -1,6 +1,7 @@
 //! What a node does with the parts of handovers and with the answers to them, without a lock.
 
 use super::{C, ONE, ZERO};
+use crate::checks::check;
 use chord_caller::Ask;
 use chord_handover::{Part, Ticket};
 use chord_ident::Id;
@@ -50,19 +51,19 @@ fn sent_by(sent: Option<(Target, Message)>) -> Sent {
 
 /// What the receiver of a part sends for it.
 fn deal_part<S: EntryStore>(rt: &impl Abort, node: &mut Node<S>, part: Part) -> Sent {
-    assert!(rt; part.to == node.number(), "a part comes to its receiver");
+    check!(rt; part.to == node.number(), "a part comes to its receiver");
     sent_by(deal(node, Message::Part(part)).expect(rt, "memory for a part"))
 }
 
 /// What the giver of a handover sends once it hears that this was taken.
 fn deal_got<S: EntryStore>(rt: &impl Abort, node: &mut Node<S>, got: Ticket) -> Sent {
-    assert!(rt; got.from == node.number(), "a Got comes to the giver");
+    check!(rt; got.from == node.number(), "a Got comes to the giver");
     sent_by(deal(node, Message::Got(got)).expect(rt, "memory, of which none is taken"))
 }
 
 /// What the giver of a handover sends once it hears that this will not be taken.
 fn deal_declined<S: EntryStore>(rt: &impl Abort, node: &mut Node<S>, declined: Ticket) -> Sent {
-    assert!(rt;
+    check!(rt;
         declined.from == node.number(),
         "a Declined comes to the giver"
     );
@@ -149,7 +150,7 @@ fn a_part_is_for_its_receiver(rt: HostRuntime) {
     let is_for_giver = is_for(&message, 0);
     let is_for_receiver = is_for(&message, 1);
     drop(message);
-    assert!(rt; is_for_receiver && !is_for_giver);
+    check!(&rt; is_for_receiver && !is_for_giver);
 }
 
 #[test]
@@ -161,22 +162,22 @@ fn a_part_is_answered_to_its_giver(rt: HostRuntime) {
     let freed = deal_got(&rt, &mut zero, FIRST);
     let after = had_by(&zero);
     drop(zero);
-    assert!(rt;
+    check!(&rt;
         first == GOT,
         "a handover is taken when its last part comes"
     );
-    assert!(rt; second == GOT, "a part that comes again is answered again");
-    assert!(rt; one == ALL, "the receiver holds what it was given");
-    assert!(rt; before == GIVEN, "the giver keeps the handover");
-    assert!(rt; freed == Sent::Nothing, "nothing is sent for a Got");
-    assert!(rt; after == NOTHING, "and the giver lets the handover go");
+    check!(&rt; second == GOT, "a part that comes again is answered again");
+    check!(&rt; one == ALL, "the receiver holds what it was given");
+    check!(&rt; before == GIVEN, "the giver keeps the handover");
+    check!(&rt; freed == Sent::Nothing, "nothing is sent for a Got");
+    check!(&rt; after == NOTHING, "and the giver lets the handover go");
 }
 
 /// A node that left and is gone.
 fn gone(rt: &impl Abort, alloc: Global) -> Node<CappedStore> {
     let mut node = receiver(alloc, 1);
-    assert!(rt; node.begin_leave().is_ok(), "a staying node leaves");
-    assert!(rt;
+    check!(rt; node.begin_leave().is_ok(), "a staying node leaves");
+    check!(rt;
         node.retire().is_ok(),
         "and retires, since it holds nothing"
     );
@@ -193,13 +194,13 @@ fn a_gone_node_declines_a_part(rt: HostRuntime) {
     let again = deal_declined(&rt, &mut zero, FIRST);
     let last = had_by(&zero);
     drop(zero);
-    assert!(rt; first == DECLINED, "a node that is gone takes nothing");
-    assert!(rt; second == DECLINED, "however often the part comes");
-    assert!(rt; one == NOTHING, "it holds nothing");
-    assert!(rt; back == Sent::Nothing, "nothing is sent for a Declined");
-    assert!(rt; after == ALL, "the giver holds the segment again");
-    assert!(rt; again == Sent::Nothing, "nor for one that comes again");
-    assert!(rt; last == ALL, "and that changes nothing");
+    check!(&rt; first == DECLINED, "a node that is gone takes nothing");
+    check!(&rt; second == DECLINED, "however often the part comes");
+    check!(&rt; one == NOTHING, "it holds nothing");
+    check!(&rt; back == Sent::Nothing, "nothing is sent for a Declined");
+    check!(&rt; after == ALL, "the giver holds the segment again");
+    check!(&rt; again == Sent::Nothing, "nor for one that comes again");
+    check!(&rt; last == ALL, "and that changes nothing");
 }
 
 #[test]
@@ -209,8 +210,8 @@ fn a_full_store_answers_no_part(rt: HostRuntime) {
     let (first, second, one) = twice(&rt, receiver(alloc, 0), part);
     let giver = had_by(&zero);
     drop(zero);
-    assert!(rt; first == Sent::Nothing, "a full store sends nothing");
-    assert!(rt; second == Sent::Nothing, "however often the part comes");
-    assert!(rt; one == NOTHING, "it holds nothing");
-    assert!(rt; giver == GIVEN, "the giver keeps the handover");
+    check!(&rt; first == Sent::Nothing, "a full store sends nothing");
+    check!(&rt; second == Sent::Nothing, "however often the part comes");
+    check!(&rt; one == NOTHING, "it holds nothing");
+    check!(&rt; giver == GIVEN, "the giver keeps the handover");
 }

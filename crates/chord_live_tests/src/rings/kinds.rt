@@ -3,6 +3,7 @@ ghost use Rattle.std.specs.Prelude.{◌≡◌};
 
 use super::workers::{Deed, with_a_worker};
 use super::{Said, ask, begin, call, founded, parts_with, said_by, settings};
+use crate::checks::check;
 use chord_live::{AskingCore, Caller, OpenCaller, RingCaller};
 use chord_live_ring::{Ring, RingParts};
 use chord_live_types::{AskFault, RetryFault, WaitFault};
@@ -69,12 +70,12 @@ fn client_with_keys<J: Naming, R: Abort + Wait + Clock>(rt: &R, alloc: Global, p
     ask_twice(rt, alloc, &mut client, &longest[..64]);
     ask_twice(rt, alloc, &mut client, &longest);
     let other = call(rt, &mut client, 0, Request::retrieve(alloc, b"c"));
-    assert!(rt;
+    check!(rt;
         other == Ok(Said::OtherValues),
         "a key without values has none"
     );
     let first = call(rt, &mut client, 0, Request::retrieve(alloc, b"a"));
-    assert!(rt; first == Ok(Said::OnlyX), "the first key has its value");
+    check!(rt; first == Ok(Said::OnlyX), "the first key has its value");
     drop(client);
     ring.close();
 }
@@ -87,9 +88,9 @@ fn ask_twice<J: Naming, S: EntryStore, C: AskingCore, R: Abort + Wait + Clock>(
     key: &[u8],
 ) {
     let added = call(rt, asker, 0, Request::insert(alloc, key, b"x"));
-    assert!(rt; added == Ok(Said::Added), "a new key is added");
+    check!(rt; added == Ok(Said::Added), "a new key is added");
     let found = call(rt, asker, 0, Request::retrieve(alloc, key));
-    assert!(rt;
+    check!(rt;
         found == Ok(Said::OnlyX),
         "it has the value that was inserted"
     );
@@ -127,33 +128,33 @@ fn ask_until_there_is_room<J: Naming, S: EntryStore, C: AskingCore, R: Abort + W
     asker: &mut RingCaller<'_, J, S, C>,
 ) {
     let added = call(rt, filler, 0, Request::insert(alloc, b"a", b"x"));
-    assert!(rt; added == Ok(Said::Added), "a node with room adds a pair");
+    check!(rt; added == Ok(Said::Added), "a node with room adds a pair");
     let full = call(rt, asker, 0, Request::insert(alloc, b"a", b"y"));
-    assert!(rt;
+    check!(rt;
         full == Err(AskFault::Wait(WaitFault::Full)),
         "a full store answers Full"
     );
     let still_full = said_by(asker.call_again(rt, 0, 1));
-    assert!(rt;
+    check!(rt;
         still_full == Err(RetryFault::Wait(WaitFault::Full)),
         "sent again, it is still Full"
     );
     let nowhere = said_by(asker.call_again(rt, 5, 1));
-    assert!(rt;
+    check!(rt;
         nowhere == Err(RetryFault::NoSuchNode),
         "no node has number 5"
     );
     let removed = call(rt, filler, 0, Request::remove(alloc, b"a", b"x"));
-    assert!(rt; removed == Ok(Said::Removed), "a pair is removed");
+    check!(rt; removed == Ok(Said::Removed), "a pair is removed");
     let answered = said_by(asker.call_again(rt, 0, 1));
-    assert!(rt; answered == Ok(Said::Added), "now there is room for it");
+    check!(rt; answered == Ok(Said::Added), "now there is room for it");
     let over = said_by(asker.call_again(rt, 0, 1));
-    assert!(rt;
+    check!(rt;
         over == Err(RetryFault::Idle),
         "what was answered is not pending"
     );
-    assert!(rt; asker.floor() == 1, "the floor rises to an answered number");
-    assert!(rt; asker.pending() == None, "nothing is pending");
+    check!(rt; asker.floor() == 1, "the floor rises to an answered number");
+    check!(rt; asker.pending() == None, "nothing is pending");
 }
 
 fn caller_with_two_requests<J: Naming, R: Abort + Wait + Clock>(
@@ -197,23 +198,23 @@ fn send_the_second_again<J: Naming, S: EntryStore, C: AskingCore, R: Abort + Wai
     asker: &mut RingCaller<'_, J, S, C>,
 ) {
     let added = call(rt, other, 0, Request::insert(alloc, b"b", b"y"));
-    assert!(rt; added == Ok(Said::Added), "a node with room adds a pair");
+    check!(rt; added == Ok(Said::Added), "a node with room adds a pair");
     let first = begin(rt, asker, 0, Request::insert(alloc, b"a", b"x"));
-    assert!(rt; first == Ok(1), "the first request has number 1");
+    check!(rt; first == Ok(1), "the first request has number 1");
     let second = begin(rt, asker, 0, Request::retrieve(alloc, b"b"));
-    assert!(rt; second == Ok(2), "the second request has number 2");
+    check!(rt; second == Ok(2), "the second request has number 2");
     let answered = said_by(asker.call_again(rt, 0, 2));
-    assert!(rt; answered == Ok(Said::OnlyY), "the second is answered");
-    assert!(rt; !asker.is_pending(2), "so it is over");
-    assert!(rt; asker.is_pending(1), "the first waits for its reply");
+    check!(rt; answered == Ok(Said::OnlyY), "the second is answered");
+    check!(rt; !asker.is_pending(2), "so it is over");
+    check!(rt; asker.is_pending(1), "the first waits for its reply");
     let found = call(rt, other, 0, Request::retrieve(alloc, b"a"));
-    assert!(rt;
+    check!(rt;
         found == Ok(Said::OtherValues),
         "nothing is under `a`: the first did not act"
     );
     let answered = said_by(asker.call_again(rt, 0, 1));
-    assert!(rt; answered == Ok(Said::Added), "sent again, it acts");
-    assert!(rt; asker.floor() == 2, "both are answered");
+    check!(rt; answered == Ok(Said::Added), "sent again, it acts");
+    check!(rt; asker.floor() == 2, "both are answered");
 }
 
 fn client_with_a_worker<J: Naming + Send + Sync, R: Abort + Threads + Wait + Clock + Sync>(
@@ -246,17 +247,17 @@ fn ask_through_inboxes<J: Naming, S: EntryStore, C: AskingCore, R: Abort + Wait 
     asker: &mut RingCaller<'_, J, S, C>,
 ) {
     let added = ask(rt, asker, 0, Request::insert(alloc, b"a", b"x"));
-    assert!(rt; added == Ok(Said::Added), "a worker answers");
+    check!(rt; added == Ok(Said::Added), "a worker answers");
     let begun = begin(rt, asker, 0, Request::retrieve(alloc, b"a"));
-    assert!(rt; begun == Ok(2), "the second request has number 2");
-    assert!(rt;
+    check!(rt; begun == Ok(2), "the second request has number 2");
+    check!(rt;
         asker.is_pending(2),
         "it is pending until its reply is taken"
     );
     let retried = said_by(asker.retry(rt, 0, 2));
-    assert!(rt;
+    check!(rt;
         retried == Ok(Said::OnlyX),
         "its reply comes, also where it came before it was awaited"
     );
-    assert!(rt; asker.floor() == 2, "both were answered");
+    check!(rt; asker.floor() == 2, "both were answered");
 }

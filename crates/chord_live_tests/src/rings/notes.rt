@@ -2,6 +2,7 @@
 ghost use Rattle.std.specs.Prelude.{◌≡◌};
 
 use super::{Known, Said, call, founded, only_call, parts_with, settings};
+use crate::checks::check;
 use chord_live::OpenCaller;
 use chord_live_ring::{Ring, RingParts};
 use chord_map::Request;
@@ -36,28 +37,28 @@ fn tell<J: Naming, S: EntryStore, R: Abort + Wait + Clock>(
     let mut zero = ring.open_caller(rt, 1).expect(rt, "a caller");
     let mut one = ring.open_caller(rt, 1).expect(rt, "a second caller");
     let added = call(rt, &mut one, 0, Request::insert(alloc, b"a", b"x"));
-    assert!(rt; added == Ok(Said::Added), "x is added under `a`");
+    check!(rt; added == Ok(Said::Added), "x is added under `a`");
     let note = one.show().expect(rt, "memory for a note");
     let met = zero.meet(note).is_ok();
-    assert!(rt; met, "there is memory to meet a note");
+    check!(rt; met, "there is memory to meet a note");
     let insert = Known {
         caller: 1,
         number: 1,
         said: Said::Added,
     };
-    assert!(rt;
+    check!(rt;
         only_call(zero.told()) == Some(insert),
         "caller 0 knows of the insert"
     );
     let again = one.show().expect(rt, "memory for a note");
     let met = zero.meet(again).is_ok();
-    assert!(rt; met, "a note may come again");
-    assert!(rt;
+    check!(rt; met, "a note may come again");
+    check!(rt;
         only_call(zero.told()) == Some(insert),
         "what it knows is not told twice"
     );
     let seen = call(rt, &mut zero, 0, Request::retrieve(alloc, b"a"));
-    assert!(rt; seen == Ok(Said::OnlyX), "and it finds x");
+    check!(rt; seen == Ok(Said::OnlyX), "and it finds x");
     drop(one);
     drop(zero);
 }

@@ -3,6 +3,7 @@ ghost use Rattle.std.specs.Prelude.{◌≡◌};
 ghost use Rattle.chord_caller.specs.Answers.{new_caller};
 
 use super::{C, ONE, ZERO};
+use crate::checks::check;
 use chord_caller::{CallerCore, SubmitFault};
 use chord_ident::Id;
 use chord_links::Links;
@@ -19,25 +20,25 @@ use std::marker::Brand;
 fn numbers_are_given_in_turn(rt: HostRuntime) {
     let parts = Registrar::open(rt.alloc(), 2, 2).expect(&rt, "memory for a table");
     let (nodes, callers) = numbers_of::<Brand>(rt.alloc(), parts).expect(&rt, "memory for actors");
-    assert!(rt;
+    check!(&rt;
         nodes.before == (0, true),
         "there is no node yet, and a slot"
     );
-    assert!(rt; nodes.first == Some(0), "the first node has number 0");
-    assert!(rt; nodes.second == Some(1), "the next one has number 1");
-    assert!(rt; nodes.after == (2, false), "then both slots are taken");
-    assert!(rt;
+    check!(&rt; nodes.first == Some(0), "the first node has number 0");
+    check!(&rt; nodes.second == Some(1), "the next one has number 1");
+    check!(&rt; nodes.after == (2, false), "then both slots are taken");
+    check!(&rt;
         nodes.taken == (true, true, false),
         "both identifiers are taken, and no other"
     );
-    assert!(rt; callers.first == Some(0), "the first caller has number 0");
-    assert!(rt; callers.second == Some(1), "a client has the next number");
-    assert!(rt; callers.third == None, "there is no third number");
-    assert!(rt;
+    check!(&rt; callers.first == Some(0), "the first caller has number 0");
+    check!(&rt; callers.second == Some(1), "a client has the next number");
+    check!(&rt; callers.third == None, "there is no third number");
+    check!(&rt;
         callers.fourth == Some(OpenClientFault::CallersSpent),
         "nor one for a client"
     );
-    assert!(rt; callers.count == 2, "two callers were admitted");
+    check!(&rt; callers.count == 2, "two callers were admitted");
 }
 
 /// What the numbers of nodes answer: how many nodes there are, and whether there is a slot.
@@ -158,28 +159,28 @@ fn number_of_client<J: Naming>(
 fn a_seated_core_submits_and_meets(rt: HostRuntime) {
     let parts = Registrar::open(rt.alloc(), 1, 2).expect(&rt, "memory for a table");
     let (asked, met) = seated::<Brand>(rt.alloc(), parts).expect(&rt, "memory for two callers");
-    assert!(rt; asked.before == (0, None, false), "it waits for nothing");
-    assert!(rt; asked.sent == (1, Some(1)), "its first call has number 1");
-    assert!(rt;
+    check!(&rt; asked.before == (0, None, false), "it waits for nothing");
+    check!(&rt; asked.sent == (1, Some(1)), "its first call has number 1");
+    check!(&rt;
         asked.heard == Some(WaitFault::NoAnswer),
         "its own call is no reply"
     );
-    assert!(rt;
+    check!(&rt;
         asked.after == (Some(1), true, true),
         "which waits, and was submitted"
     );
-    assert!(rt;
+    check!(&rt;
         asked.refusal == Some(SubmitFault::WindowFull),
         "its window has room for one"
     );
-    assert!(rt; asked.again == Some(1), "it is sent again under its number");
-    assert!(rt; asked.number == 0, "its seat has its number");
-    assert!(rt;
+    check!(&rt; asked.again == Some(1), "it is sent again under its number");
+    check!(&rt; asked.number == 0, "its seat has its number");
+    check!(&rt;
         met.known == (0, 0),
         "another caller took and was told nothing"
     );
-    assert!(rt; met.after == (0, 0), "a note of nothing tells it nothing");
-    assert!(rt;
+    check!(&rt; met.after == (0, 0), "a note of nothing tells it nothing");
+    check!(&rt;
         met.reply == Some(false),
         "it has no reply to its request 1"
     );

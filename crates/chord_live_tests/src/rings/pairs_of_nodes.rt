@@ -7,6 +7,7 @@ use super::{
     C, Said, ask, begin, call, founded, parts_with, said_by, settings, sight_of, succeeds, tick,
     tick_both,
 };
+use crate::checks::check;
 use chord_ident::Id;
 use chord_live::{Caller, OpenCaller};
 use chord_live_ring::{Ring, RingParts};
@@ -69,7 +70,7 @@ fn settle<J: Naming, S: EntryStore, R: Abort + Wait + Clock>(
         tick_both(rt, ring);
         thread::sleep(rt, Duration::from_millis(1));
     }
-    assert!(rt; false, "node 1 holds its segment");
+    check!(rt; false, "node 1 holds its segment");
 }
 
 /// A ring of two nodes; the second one, at C, has room for this many pairs.
@@ -83,7 +84,7 @@ fn ring_of_two<J: Naming, R: Abort + Wait>(
 {
     let ring = founded::<J, CappedStore, R>(rt, parts, CappedStore::new(alloc, 3));
     let joined = succeeds(ring.join(rt, Id::new(C), 0, CappedStore::new(alloc, room)));
-    assert!(rt; joined, "the second node joins");
+    check!(rt; joined, "the second node joins");
     ring
 }
 
@@ -120,7 +121,7 @@ pub fn leaves_to_full<J: Naming, S: EntryStore, R: Abort + Wait + Clock>(
     let mut caller = ring.open_caller(rt, 1).expect(rt, "a caller");
     fill_both(rt, alloc, &mut caller);
     let leaves = ring.leave(rt, 0);
-    assert!(rt; leaves == Ok(()), "node 0 begins to leave");
+    check!(rt; leaves == Ok(()), "node 0 begins to leave");
     is_refused(rt, alloc, ring, &mut caller);
     is_taken_with_room(rt, alloc, ring, &mut caller);
     drop(caller);
@@ -134,7 +135,7 @@ fn fill_both<J: Naming, S: EntryStore, R: Abort + Wait + Clock>(
 ) {
     for key in [b"a", b"b", b"d"] {
         let added = call(rt, caller, 0, Request::insert(alloc, key, b"x"));
-        assert!(rt; added == Ok(Said::Added), "a node with room adds a pair");
+        check!(rt; added == Ok(Said::Added), "a node with room adds a pair");
     }
 }
 
@@ -166,14 +167,14 @@ fn is_refused<J: Naming, S: EntryStore, R: Abort + Wait + Clock>(
 ) {
     let gives = Holding { pairs: 0, given: 1 };
     let gave = comes_to(rt, alloc, ring, gives);
-    assert!(rt; gave, "node 0 gives all it held");
+    check!(rt; gave, "node 0 gives all it held");
     let seen = ask(rt, caller, 1, Request::retrieve(alloc, b"a"));
-    assert!(rt; seen == Ok(Said::OnlyX), "node 1 answers behind the part");
+    check!(rt; seen == Ok(Said::OnlyX), "node 1 answers behind the part");
     let giver = holding_of(rt, alloc, ring, 0);
-    assert!(rt; giver == gives, "node 0 goes on giving it");
+    check!(rt; giver == gives, "node 0 goes on giving it");
     let receiver = holding_of(rt, alloc, ring, 1);
     let is_full = Holding { pairs: 1, given: 0 };
-    assert!(rt; receiver == is_full, "node 1 has no room for it");
+    check!(rt; receiver == is_full, "node 1 has no room for it");
 }
 
 /// Node 1 gets room for two pairs.
@@ -184,12 +185,12 @@ fn is_taken_with_room<J: Naming, S: EntryStore, R: Abort + Wait + Clock>(
     caller: &mut Caller<'_, J, S>,
 ) {
     let removed = ask(rt, caller, 1, Request::remove(alloc, b"a", b"x"));
-    assert!(rt; removed == Ok(Said::Removed), "node 1 gets room");
+    check!(rt; removed == Ok(Said::Removed), "node 1 gets room");
     let gave = comes_to(rt, alloc, ring, Holding { pairs: 0, given: 0 });
-    assert!(rt; gave, "a part is sent again until it is taken");
+    check!(rt; gave, "a part is sent again until it is taken");
     let receiver = holding_of(rt, alloc, ring, 1);
     let has_both = Holding { pairs: 2, given: 0 };
-    assert!(rt; receiver == has_both, "node 1 has both pairs");
+    check!(rt; receiver == has_both, "node 1 has both pairs");
 }
 
 #[test]
@@ -230,12 +231,12 @@ pub fn begins_at_one<J: Naming, S: EntryStore, R: Abort + Wait + Clock>(
     settle(rt, alloc, ring);
     let mut caller = ring.open_caller(rt, 1).expect(rt, "a caller");
     let added = call(rt, &mut caller, 1, Request::insert(alloc, b"a", b"x"));
-    assert!(rt; added == Ok(Said::Added), "node 1 adds a pair");
+    check!(rt; added == Ok(Said::Added), "node 1 adds a pair");
     let begun = begin(rt, &mut caller, 1, Request::retrieve(alloc, b"a"));
-    assert!(rt; begun == Ok(2), "the second request has number 2");
+    check!(rt; begun == Ok(2), "the second request has number 2");
     let collected = said_by(caller.collect(rt, 2));
     drop(caller);
-    assert!(rt;
+    check!(rt;
         collected == Ok(Said::OnlyX),
         "the worker of node 1 answers it"
     );

@@ -3,6 +3,7 @@ ghost use Rattle.std.specs.Prelude.{◌≡◌};
 
 use super::workers::{Deed, with_two_workers};
 use super::{A, C, Said, ZERO, call, founded, parts_with, settings, sight_of, succeeds, tick_both};
+use crate::checks::check;
 use chord_caller::Ask;
 use chord_ident::{Id, Span};
 use chord_live::OpenCaller;
@@ -74,7 +75,7 @@ fn places_in<S: EntryStore>(node: &Node<S>) -> Places {
 #[test]
 fn a_piece_has_the_first_pairs(rt: HostRuntime) {
     let mut node = with_three(rt.alloc()).expect(&rt, "memory for a node");
-    assert!(rt;
+    check!(&rt;
         trim(&mut node, 0, 1).ok() == Some(true),
         "it has more than a piece of one pair"
     );
@@ -83,25 +84,25 @@ fn a_piece_has_the_first_pairs(rt: HostRuntime) {
         a: Some(1),
         b: Some(1),
     };
-    assert!(rt;
+    check!(&rt;
         places_in(&node) == one_and_two,
         "the first pair alone is in the piece"
     );
-    assert!(rt;
+    check!(&rt;
         trim(&mut node, 0, 2).ok() == Some(false),
         "one pair is not enough for a piece of two"
     );
-    assert!(rt;
+    check!(&rt;
         trim(&mut node, 1, 2).ok() == Some(true),
         "the two others are"
     );
-    assert!(rt; places_in(&node) == one_and_two, "both are in the piece");
-    assert!(rt; node.held_count() == 3, "behind which is no pair");
-    assert!(rt;
+    check!(&rt; places_in(&node) == one_and_two, "both are in the piece");
+    check!(&rt; node.held_count() == 3, "behind which is no pair");
+    check!(&rt;
         trim(&mut node, 3, 1).ok() == Some(false),
         "there are three segments"
     );
-    assert!(rt; node.held_count() == 3, "and none was cut");
+    check!(&rt; node.held_count() == 3, "and none was cut");
     drop(node);
 }
 
@@ -116,29 +117,29 @@ fn in_three_pieces(alloc: Global) -> Option<Node<TreeStore>> {
 #[test]
 fn segments_that_adjoin_are_joined(rt: HostRuntime) {
     let mut node = in_three_pieces(rt.alloc()).expect(&rt, "memory for a node");
-    assert!(rt;
+    check!(&rt;
         join_adjoining(&mut node, Id::new(C)).ok() == Some(false),
         "one segment alone lies between C and the node"
     );
-    assert!(rt; node.held_count() == 3, "none was joined");
-    assert!(rt;
+    check!(&rt; node.held_count() == 3, "none was joined");
+    check!(&rt;
         join_adjoining(&mut node, Id::new(A)).ok() == Some(true),
         "all three are a node's that is alone"
     );
-    assert!(rt;
+    check!(&rt;
         node.span(0) == span(A, ID_OF_B),
         "the second goes on behind the first"
     );
-    assert!(rt;
+    check!(&rt;
         join_adjoining(&mut node, Id::new(A)).ok() == Some(true),
         "so does the third"
     );
-    assert!(rt; node.span(0) == span(A, A), "it holds the whole circle");
-    assert!(rt;
+    check!(&rt; node.span(0) == span(A, A), "it holds the whole circle");
+    check!(&rt;
         join_adjoining(&mut node, Id::new(A)).ok() == Some(false),
         "which is not joined with itself"
     );
-    assert!(rt; node.pair_count() == 3, "it has all pairs");
+    check!(&rt; node.pair_count() == 3, "it has all pairs");
     drop(node);
 }
 
@@ -165,7 +166,7 @@ fn gives_all<J: Naming + Send + Sync, R: Abort + Threads + Wait + Clock + Sync>(
     let ring = founded::<J, TreeStore, R>(rt, parts, TreeStore::new(alloc));
     fill(rt, alloc, &ring);
     let joined = succeeds(ring.join(rt, Id::new(BEFORE_A), 0, TreeStore::new(alloc)));
-    assert!(rt; joined, "a second node joins by the first");
+    check!(rt; joined, "a second node joins by the first");
     with_two_workers(rt, alloc, &ring, Deed::GoOver);
     ring.close();
 }
@@ -205,8 +206,8 @@ pub fn goes_over<J: Naming, S: EntryStore, R: Abort + Wait + Clock>(
     }
     has_all(rt, sight_of(rt, alloc, ring, 1));
     let giver = sight_of(rt, alloc, ring, 0);
-    assert!(rt; giver.pairs == 0, "node 0 has no pair left");
-    assert!(rt;
+    check!(rt; giver.pairs == 0, "node 0 has no pair left");
+    check!(rt;
         (3..=5).contains(&giver.counts.handovers.given),
         "a piece has 513 to 1,024 pairs, and the last may have fewer"
     );
@@ -225,7 +226,7 @@ fn is_over(sight: &NodeSight) -> bool {
 
 /// What node 0 hands over at a time is one piece at most.
 fn gives_one_piece<R: Abort>(rt: &R, sight: NodeSight) {
-    assert!(rt; sight.outbox.len() <= 1, "one piece is under way at a time");
+    check!(rt; sight.outbox.len() <= 1, "one piece is under way at a time");
     for item in &sight.outbox {
         assert!(rt;
             item.pairs <= 1_024,
@@ -237,13 +238,13 @@ fn gives_one_piece<R: Abort>(rt: &R, sight: NodeSight) {
 }
 
 fn has_all<R: Abort>(rt: &R, sight: NodeSight) {
-    assert!(rt; sight.pairs == PAIRS, "node 1 has all pairs");
-    assert!(rt; sight.segments.len() == 1, "in one segment");
-    assert!(rt;
+    check!(rt; sight.pairs == PAIRS, "node 1 has all pairs");
+    check!(rt; sight.segments.len() == 1, "in one segment");
+    check!(rt;
         sight.segments[0].span == Span::new(Id::new(A), Id::new(BEFORE_A)),
         "which is its own"
     );
-    assert!(rt;
+    check!(rt;
         (3..=5).contains(&sight.counts.handovers.taken),
         "it took each piece"
     );

@@ -2,6 +2,7 @@
 ghost use Rattle.std.specs.Prelude.{◌≡◌};
 
 use super::{A, B, C, Said, ask, begin, call, founded, parts_with, said_by, settings, succeeds};
+use crate::checks::check;
 use chord_caller::SubmitFault;
 use chord_ident::Id;
 use chord_links::Peer;
@@ -107,7 +108,7 @@ fn entered<F: Copy>(
         Ok(peer) => Ok(peer),
         Err((fault, store)) => {
             let shown = show_store(rt, alloc, store);
-            assert!(rt; shown == ROOM_FOR_ONE, "a refused node's store comes back");
+            check!(rt; shown == ROOM_FOR_ONE, "a refused node's store comes back");
             Err(fault)
         }
     }
@@ -161,14 +162,14 @@ fn refusals<J: Naming, R: Abort + Wait + Clock>(rt: &R, alloc: Global, parts: Ri
 
 fn has_no_node<J: Naming, R: Abort + Wait + Clock>(rt: &R, ring: &Ring<J, CappedStore>) {
     let ticked = ring.tick(rt, 0);
-    assert!(rt;
+    check!(rt;
         ticked == Err(TickFault::NoSuchNode),
         "there is no node 0 to tick yet"
     );
     let crashed = ring.crash(rt, 0);
-    assert!(rt; crashed == Err(NoSuchNode), "nor one to crash");
+    check!(rt; crashed == Err(NoSuchNode), "nor one to crash");
     let worked = ring.work(rt, 0, &NoProbe);
-    assert!(rt; worked == Err(NoSuchNode), "nor one to work for");
+    check!(rt; worked == Err(NoSuchNode), "nor one to work for");
 }
 
 pub fn peer(number: u64, id: u128) -> Peer {
@@ -184,9 +185,9 @@ fn is_created_once<J: Naming, R: Abort + Wait + Clock>(
     ring: &Ring<J, CappedStore>,
 ) {
     let first = create(rt, alloc, ring, A);
-    assert!(rt; first == Ok(peer(0, A)), "the first node has number 0");
+    check!(rt; first == Ok(peer(0, A)), "the first node has number 0");
     let again = create(rt, alloc, ring, A);
-    assert!(rt;
+    check!(rt;
         again == Err(CreateFault::AlreadyCreated),
         "a ring is created once"
     );
@@ -198,19 +199,19 @@ fn fills_its_slots<J: Naming, R: Abort + Wait + Clock>(
     ring: &Ring<J, CappedStore>,
 ) {
     let taken = join(rt, alloc, ring, A, 0);
-    assert!(rt;
+    check!(rt;
         taken == Err(JoinFault::IdTaken),
         "two nodes have two identifiers"
     );
     let nowhere = join(rt, alloc, ring, C, 5);
-    assert!(rt;
+    check!(rt;
         nowhere == Err(JoinFault::NoSuchNode),
         "a node joins by one that exists"
     );
     let joined = join(rt, alloc, ring, C, 0);
-    assert!(rt; joined == Ok(peer(1, C)), "the second node has number 1");
+    check!(rt; joined == Ok(peer(1, C)), "the second node has number 1");
     let full = join(rt, alloc, ring, B, 0);
-    assert!(rt;
+    check!(rt;
         full == Err(JoinFault::NoSlot),
         "a ring of two slots has no third node"
     );
@@ -218,14 +219,14 @@ fn fills_its_slots<J: Naming, R: Abort + Wait + Clock>(
 
 fn knows_its_nodes<J: Naming, R: Abort + Wait + Clock>(rt: &R, ring: &Ring<J, CappedStore>) {
     let ticked = ring.tick(rt, 0);
-    assert!(rt; ticked.is_ok(), "a node that exists is ticked");
+    check!(rt; ticked.is_ok(), "a node that exists is ticked");
     let left = ring.leave(rt, 2);
-    assert!(rt;
+    check!(rt;
         left == Err(LeaveFault::NoSuchNode),
         "an unknown node does not leave"
     );
     let retired = ring.retire(rt, 2);
-    assert!(rt;
+    check!(rt;
         retired == Err(RingRetireFault::NoSuchNode),
         "nor does it retire"
     );
@@ -234,26 +235,26 @@ fn knows_its_nodes<J: Naming, R: Abort + Wait + Clock>(rt: &R, ring: &Ring<J, Ca
 /// Node 1, which holds nothing, departs; node 0 holds the circle.
 fn departures<J: Naming, R: Abort + Wait + Clock>(rt: &R, ring: &Ring<J, CappedStore>) {
     let staying = ring.retire(rt, 0);
-    assert!(rt;
+    check!(rt;
         staying == Err(RingRetireFault::NotLeaving),
         "a staying node does not retire"
     );
     let leaves = ring.leave(rt, 1);
-    assert!(rt; leaves == Ok(()), "a staying node begins to leave");
+    check!(rt; leaves == Ok(()), "a staying node begins to leave");
     let again = ring.leave(rt, 1);
-    assert!(rt; again == Err(LeaveFault::NotStaying), "once");
+    check!(rt; again == Err(LeaveFault::NotStaying), "once");
     let retires = ring.retire(rt, 1);
-    assert!(rt;
+    check!(rt;
         retires == Ok(()),
         "a leaving node that holds nothing retires"
     );
     let leaves = ring.leave(rt, 0);
-    assert!(rt;
+    check!(rt;
         leaves == Ok(()),
         "a node that holds the circle begins to leave too"
     );
     let stays = ring.retire(rt, 0);
-    assert!(rt;
+    check!(rt;
         stays == Err(RingRetireFault::NotEmpty),
         "but it does not retire"
     );
@@ -265,21 +266,21 @@ fn is_stopped<J: Naming, R: Abort + Wait + Clock>(
     ring: &Ring<J, CappedStore>,
 ) {
     let joined = join(rt, alloc, ring, B, 0);
-    assert!(rt;
+    check!(rt;
         joined == Err(JoinFault::Stopped),
         "nobody joins a stopped ring"
     );
     let created = create(rt, alloc, ring, B);
-    assert!(rt;
+    check!(rt;
         created == Err(CreateFault::Stopped),
         "no node of it is created"
     );
     let ticked = ring.tick(rt, 0);
-    assert!(rt; ticked == Err(TickFault::Stopped), "none is ticked");
+    check!(rt; ticked == Err(TickFault::Stopped), "none is ticked");
     let opened = ring.open_caller(rt, 1).err();
-    assert!(rt; opened == Some(OpenFault::Stopped), "no caller is admitted");
+    check!(rt; opened == Some(OpenFault::Stopped), "no caller is admitted");
     let opened = ring.open_client(rt, 1).err();
-    assert!(rt; opened == Some(OpenClientFault::Stopped), "nor is a client");
+    check!(rt; opened == Some(OpenClientFault::Stopped), "nor is a client");
 }
 
 #[test]
@@ -295,12 +296,12 @@ fn caller_refusals<J: Naming, R: Abort + Wait + Clock>(rt: &R, alloc: Global, pa
     let ring = founded::<J, CappedStore, R>(rt, parts, CappedStore::new(alloc, 1));
     let mut caller = ring.open_caller(rt, 2).expect(rt, "a caller");
     let spent = ring.open_caller(rt, 1).err();
-    assert!(rt;
+    check!(rt;
         spent == Some(OpenFault::CallersSpent),
         "a ring for one caller admits no second one"
     );
     let spent = ring.open_client(rt, 1).err();
-    assert!(rt;
+    check!(rt;
         spent == Some(OpenClientFault::CallersSpent),
         "nor a client, which would be its second caller"
     );
@@ -321,12 +322,12 @@ fn bad_requests<J: Naming, R: Abort + Wait + Clock>(
 ) {
     let bad = BeginFault::Submit(SubmitFault::Bad(RequestFault::KeyEmpty));
     let begun = begin(rt, caller, 5, Request::retrieve(alloc, b""));
-    assert!(rt;
+    check!(rt;
         begun == Err(bad),
         "a request is judged before its node is looked for"
     );
     let asked = ask(rt, caller, 5, Request::retrieve(alloc, b""));
-    assert!(rt;
+    check!(rt;
         asked == Err(AskFault::Begin(bad)),
         "also where the caller waits"
     );
@@ -339,12 +340,12 @@ fn unknown_nodes<J: Naming, R: Abort + Wait + Clock>(
     caller: &mut Caller<'_, J, CappedStore>,
 ) {
     let begun = begin(rt, caller, 5, Request::retrieve(alloc, b"a"));
-    assert!(rt;
+    check!(rt;
         begun == Err(BeginFault::NoSuchNode),
         "an unknown node is asked nothing"
     );
     let called = call(rt, caller, 5, Request::retrieve(alloc, b"a"));
-    assert!(rt;
+    check!(rt;
         called == Err(AskFault::Begin(BeginFault::NoSuchNode)),
         "no request is carried from it"
     );
@@ -355,17 +356,17 @@ fn nothing_pending<J: Naming, R: Abort + Wait + Clock>(
     rt: &R,
     caller: &mut Caller<'_, J, CappedStore>,
 ) {
-    assert!(rt;
+    check!(rt;
         caller.pending() == None,
         "a refused request is not pending"
     );
     let collected = said_by(caller.collect(rt, 1));
-    assert!(rt;
+    check!(rt;
         collected == Err(CollectFault::NotBegun),
         "it was not begun"
     );
     let retried = said_by(caller.retry(rt, 0, 1));
-    assert!(rt; retried == Err(RetryFault::Idle), "it is not sent again");
+    check!(rt; retried == Err(RetryFault::Idle), "it is not sent again");
 }
 
 /// Two requests fill the window.
@@ -376,27 +377,27 @@ fn a_full_window<J: Naming, R: Abort + Wait + Clock>(
 ) {
     let full = BeginFault::Submit(SubmitFault::WindowFull);
     let first = begin(rt, caller, 0, Request::retrieve(alloc, b"a"));
-    assert!(rt; first == Ok(1), "the first request has number 1");
+    check!(rt; first == Ok(1), "the first request has number 1");
     let second = begin(rt, caller, 0, Request::retrieve(alloc, b"b"));
-    assert!(rt;
+    check!(rt;
         second == Ok(2),
         "a window of two has room for a second one"
     );
-    assert!(rt; caller.is_pending(1), "the first waits for its reply");
-    assert!(rt; caller.is_pending(2), "so does the second");
-    assert!(rt; !caller.is_pending(3), "there is no third");
-    assert!(rt;
+    check!(rt; caller.is_pending(1), "the first waits for its reply");
+    check!(rt; caller.is_pending(2), "so does the second");
+    check!(rt; !caller.is_pending(3), "there is no third");
+    check!(rt;
         caller.pending() == Some(1),
         "the first is the least pending one"
     );
-    assert!(rt; caller.floor() == 0, "no reply came");
+    check!(rt; caller.floor() == 0, "no reply came");
     let more = begin(rt, caller, 5, Request::retrieve(alloc, b"a"));
-    assert!(rt;
+    check!(rt;
         more == Err(full),
         "a full window is seen before the node is looked for"
     );
     let asked = ask(rt, caller, 5, Request::retrieve(alloc, b"a"));
-    assert!(rt;
+    check!(rt;
         asked == Err(AskFault::Begin(full)),
         "also where the caller waits"
     );
@@ -405,25 +406,25 @@ fn a_full_window<J: Naming, R: Abort + Wait + Clock>(
 /// Node 0 has no worker, so it answers nothing.
 fn no_answers<J: Naming, R: Abort + Wait + Clock>(rt: &R, caller: &mut Caller<'_, J, CappedStore>) {
     let nowhere = said_by(caller.retry(rt, 5, 1));
-    assert!(rt;
+    check!(rt;
         nowhere == Err(RetryFault::NoSuchNode),
         "a request goes to a node that exists"
     );
     let retried = said_by(caller.retry(rt, 0, 1));
-    assert!(rt;
+    check!(rt;
         retried == Err(RetryFault::Wait(WaitFault::NoAnswer)),
         "a node without a worker does not answer"
     );
     let collected = said_by(caller.collect(rt, 2));
-    assert!(rt;
+    check!(rt;
         collected == Err(CollectFault::Wait(WaitFault::NoAnswer)),
         "nor is there a reply to collect"
     );
-    assert!(rt;
+    check!(rt;
         caller.is_pending(1),
         "a request without a reply stays pending"
     );
-    assert!(rt; caller.is_pending(2), "each of them does");
+    check!(rt; caller.is_pending(2), "each of them does");
 }
 
 #[test]
@@ -439,9 +440,9 @@ fn client_refusals<J: Naming, R: Abort + Wait + Clock>(rt: &R, alloc: Global, pa
     let ring = founded::<J, CappedStore, R>(rt, parts, CappedStore::new(alloc, 1));
     let mut client = ring.open_client(rt, 1).expect(rt, "a client");
     let idle = said_by(client.retry(rt, 0, 1));
-    assert!(rt; idle == Err(RetryFault::Idle), "no request was begun yet");
+    check!(rt; idle == Err(RetryFault::Idle), "no request was begun yet");
     let begun = begin(rt, &mut client, 0, Request::retrieve(alloc, b"a"));
-    assert!(rt; begun == Ok(1), "the first request has number 1");
+    check!(rt; begun == Ok(1), "the first request has number 1");
     retries(rt, &mut client);
     drop(client);
     ring.close();
@@ -453,18 +454,18 @@ fn retries<J: Naming, R: Abort + Wait + Clock>(
     client: &mut RingClient<'_, J, CappedStore>,
 ) {
     let idle = said_by(client.retry(rt, 0, 2));
-    assert!(rt; idle == Err(RetryFault::Idle), "there is no request 2");
+    check!(rt; idle == Err(RetryFault::Idle), "there is no request 2");
     let nowhere = said_by(client.retry(rt, 5, 1));
-    assert!(rt;
+    check!(rt;
         nowhere == Err(RetryFault::NoSuchNode),
         "a request goes to a node that exists"
     );
     let unheard = said_by(client.retry(rt, 0, 1));
-    assert!(rt;
+    check!(rt;
         unheard == Err(RetryFault::Wait(WaitFault::NoAnswer)),
         "a node without a worker does not answer"
     );
-    assert!(rt; client.is_pending(1), "the request stays pending");
+    check!(rt; client.is_pending(1), "the request stays pending");
 }
 
 #[test]
@@ -480,15 +481,15 @@ fn stopped<J: Naming, R: Abort + Wait + Clock>(rt: &R, alloc: Global, parts: Rin
     let ring = founded::<J, CappedStore, R>(rt, parts, CappedStore::new(alloc, 1));
     let mut caller = ring.open_caller(rt, 2).expect(rt, "a caller");
     let called = call(rt, &mut caller, 0, Request::insert(alloc, b"abc", b"x"));
-    assert!(rt; called == Ok(Said::Added), "a ring that runs answers");
+    check!(rt; called == Ok(Said::Added), "a ring that runs answers");
     ring.stop();
     ring.stop();
     let unheard = ask(rt, &mut caller, 0, Request::retrieve(alloc, b"abc"));
-    assert!(rt;
+    check!(rt;
         unheard == Err(AskFault::Wait(WaitFault::NoAnswer)),
         "a stopped ring does not answer"
     );
-    assert!(rt; caller.is_pending(2), "the request stays pending");
+    check!(rt; caller.is_pending(2), "the request stays pending");
     drop(caller);
     ring.close();
 }

@@ -3,6 +3,7 @@ ghost use Rattle.std.specs.Prelude.{◌≡◌};
 
 use super::refusals::{join, peer};
 use super::{C, begin, founded, parts_with, settings, sight_of, tick};
+use crate::checks::check;
 use chord_live::OpenCaller;
 use chord_live_ring::{NoProbe, Ring, RingParts, Round};
 use chord_map::Request;
@@ -16,16 +17,16 @@ use std::time::Clock;
 
 #[test]
 fn two_rounds_are_quiet_if_both_are(rt: HostRuntime) {
-    assert!(&rt; Round::Quiet.with(Round::Quiet) == Round::Quiet, "both are");
-    assert!(&rt;
+    check!(&rt; Round::Quiet.with(Round::Quiet) == Round::Quiet, "both are");
+    check!(&rt;
         Round::Quiet.with(Round::Busy) == Round::Busy,
         "the second is not"
     );
-    assert!(&rt;
+    check!(&rt;
         Round::Busy.with(Round::Quiet) == Round::Busy,
         "the first is not"
     );
-    assert!(&rt; Round::Busy.with(Round::Busy) == Round::Busy, "neither is");
+    check!(&rt; Round::Busy.with(Round::Busy) == Round::Busy, "neither is");
 }
 
 #[test]
@@ -45,7 +46,7 @@ fn lone<J: Naming, R: Abort + Wait>(rt: &R, alloc: Global, parts: RingParts)
     }
     for _ in 0..128u64 {
         let ticked = ring.tick(rt, 0);
-        assert!(rt; ticked == Ok(Round::Quiet), "it knows all fingers");
+        check!(rt; ticked == Ok(Round::Quiet), "it knows all fingers");
     }
     ring.close();
 }
@@ -61,26 +62,26 @@ fn rests<J: Naming, R: Abort + Wait + Clock>(rt: &R, alloc: Global, parts: RingP
     requires { parts.name ≡ J.name }
 {
     let ring = founded::<J, CappedStore, R>(rt, parts, CappedStore::new(alloc, 1));
-    assert!(rt;
+    check!(rt;
         ring.settings() == settings(2, 1, 1, 10),
         "it tells its settings"
     );
-    assert!(rt; ring.node_count() == 1, "there is one node");
-    assert!(rt; ring.rest(rt, 60_000), "the first node came");
-    assert!(rt; !ring.rest(rt, 1), "and nothing since");
+    check!(rt; ring.node_count() == 1, "there is one node");
+    check!(rt; ring.rest(rt, 60_000), "the first node came");
+    check!(rt; !ring.rest(rt, 1), "and nothing since");
     let joined = join(rt, alloc, &ring, C, 0);
-    assert!(rt; joined == Ok(peer(1, C)), "a second node joins");
-    assert!(rt; ring.node_count() == 2, "there are two nodes");
-    assert!(rt; ring.rest(rt, 60_000), "the second node came");
+    check!(rt; joined == Ok(peer(1, C)), "a second node joins");
+    check!(rt; ring.node_count() == 2, "there are two nodes");
+    check!(rt; ring.rest(rt, 60_000), "the second node came");
     let leaves = ring.leave(rt, 1);
-    assert!(rt; leaves == Ok(()), "it begins to leave");
-    assert!(rt; ring.rest(rt, 60_000), "the second node leaves");
+    check!(rt; leaves == Ok(()), "it begins to leave");
+    check!(rt; ring.rest(rt, 60_000), "the second node leaves");
     let crashed = ring.crash(rt, 1);
-    assert!(rt; crashed == Ok(()), "it crashes");
-    assert!(rt; ring.rest(rt, 60_000), "the second node crashed");
-    assert!(rt; !ring.rest(rt, 0), "no time is no rest");
+    check!(rt; crashed == Ok(()), "it crashes");
+    check!(rt; ring.rest(rt, 60_000), "the second node crashed");
+    check!(rt; !ring.rest(rt, 0), "no time is no rest");
     ring.stop();
-    assert!(rt;
+    check!(rt;
         !ring.rest(rt, 60_000),
         "there is no rest once it is stopped"
     );
@@ -109,28 +110,28 @@ fn passes_on<J: Naming, R: Abort + Wait + Clock>(rt: &R, alloc: Global, parts: R
 {
     let ring = founded::<J, CappedStore, R>(rt, parts, CappedStore::new(alloc, 1));
     let joined = join(rt, alloc, &ring, C, 0);
-    assert!(rt; joined == Ok(peer(1, C)), "a second node joins");
+    check!(rt; joined == Ok(peer(1, C)), "a second node joins");
     for _ in 0..3u64 {
         tick(rt, &ring, 1);
         tick(rt, &ring, 0);
     }
     let leaves = ring.leave(rt, 1);
-    assert!(rt; leaves == Ok(()), "it begins to leave");
+    check!(rt; leaves == Ok(()), "it begins to leave");
     let retired = ring.retire(rt, 1);
-    assert!(rt; retired == Ok(()), "it holds nothing, and retires");
-    assert!(rt; ring.rest(rt, 60_000), "that ends a rest");
+    check!(rt; retired == Ok(()), "it holds nothing, and retires");
+    check!(rt; ring.rest(rt, 60_000), "that ends a rest");
     let worked = ring.work(rt, 1, &NoProbe);
-    assert!(rt; worked == Ok(()), "a worker of a gone node ends");
+    check!(rt; worked == Ok(()), "a worker of a gone node ends");
     let mut caller = ring.open_caller(rt, 1).expect(rt, "a caller");
     let begun = begin(rt, &mut caller, 1, Request::retrieve(alloc, b"abc"));
-    assert!(rt; begun == Ok(1), "a request is sent to it");
-    assert!(rt;
+    check!(rt; begun == Ok(1), "a request is sent to it");
+    check!(rt;
         passed_on(rt, alloc, &ring) == 0,
         "it passed nothing on yet"
     );
     let ticked = ring.tick(rt, 1);
-    assert!(rt; ticked == Ok(Round::Quiet), "a gone node has nothing to do");
-    assert!(rt; passed_on(rt, alloc, &ring) == 1, "but what waited for it");
+    check!(rt; ticked == Ok(Round::Quiet), "a gone node has nothing to do");
+    check!(rt; passed_on(rt, alloc, &ring) == 1, "but what waited for it");
     drop(caller);
     ring.close();
 }

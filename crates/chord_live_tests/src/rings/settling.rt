@@ -4,6 +4,7 @@ ghost use Rattle.std.specs.Prelude.{◌≡◌};
 use super::refusals::{join, peer};
 use super::workers::{Deed, with_two_workers};
 use super::{B, C, founded, parts_with, settings, succeeds, tick};
+use crate::checks::check;
 use chord_ident::Id;
 use chord_live_ring::{Ring, RingParts, RingRetireFault};
 use chord_live_types::JoinFault;
@@ -32,11 +33,11 @@ fn joins<J: Naming, R: Abort + Wait + Clock>(rt: &R, alloc: Global, parts: RingP
 {
     let ring = founded::<J, CappedStore, R>(rt, parts, CappedStore::new(alloc, 1));
     let second = join(rt, alloc, &ring, C, 0);
-    assert!(rt; second == Ok(peer(1, C)), "the second node joins");
+    check!(rt; second == Ok(peer(1, C)), "the second node joins");
     tick(rt, &ring, 1);
     tick(rt, &ring, 0);
     let crashed = ring.crash(rt, 1);
-    assert!(rt; crashed == Ok(()), "it crashes");
+    check!(rt; crashed == Ok(()), "it crashes");
     refuses_and_settles(rt, alloc, &ring);
     ring.close();
 }
@@ -48,23 +49,23 @@ fn refuses_and_settles<J: Naming, R: Abort + Wait + Clock>(
     ring: &Ring<J, CappedStore>,
 ) {
     let by_crashed = join(rt, alloc, ring, B, 1);
-    assert!(rt;
+    check!(rt;
         by_crashed == Err(JoinFault::Unsettled),
         "nobody joins by way of a node that crashed"
     );
     let behind_crashed = join(rt, alloc, ring, E, 0);
-    assert!(rt;
+    check!(rt;
         behind_crashed == Err(JoinFault::Unsettled),
         "nor behind one"
     );
     let before_crashed = join(rt, alloc, ring, B, 0);
-    assert!(rt;
+    check!(rt;
         before_crashed == Ok(peer(2, B)),
         "a node joins behind one that lives"
     );
     tick(rt, ring, 0);
     let settled = join(rt, alloc, ring, E, 0);
-    assert!(rt;
+    check!(rt;
         settled == Ok(peer(3, E)),
         "and any node once node 0 lists no crashed one"
     );
@@ -86,7 +87,7 @@ fn leaves<J: Naming + Send + Sync, R: Abort + Threads + Wait + Clock + Sync>(
 {
     let ring = founded::<J, CappedStore, R>(rt, parts, CappedStore::new(alloc, 1));
     let joined = succeeds(ring.join(rt, Id::new(C), 0, CappedStore::new(alloc, 1)));
-    assert!(rt; joined, "the second node joins");
+    check!(rt; joined, "the second node joins");
     with_two_workers(rt, alloc, &ring, Deed::LeaveAndRetire);
     ring.close();
 }
@@ -115,15 +116,15 @@ pub fn leave_and_retire<J: Naming, S: EntryStore, R: Abort + Wait + Clock>(
     tick(rt, ring, 1);
     tick(rt, ring, 0);
     let leaves = ring.leave(rt, 0);
-    assert!(rt; leaves == Ok(()), "node 0 begins to leave");
+    check!(rt; leaves == Ok(()), "node 0 begins to leave");
     let retired = give_all(rt, ring);
-    assert!(rt;
+    check!(rt;
         retired == Err(RingRetireFault::Unsafe),
         "node 1 would list no live node"
     );
     tick(rt, ring, 1);
     let retired = ring.retire(rt, 0);
-    assert!(rt;
+    check!(rt;
         retired == Ok(()),
         "node 0 retires once node 1 lists itself behind it"
     );

@@ -6,6 +6,7 @@ use super::{
     A, Said, Way, call, founded, insert_by_another, parts_with, settings, sight_of, succeeds, tick,
     tick_both,
 };
+use crate::checks::check;
 use chord_ident::{Id, Span};
 use chord_live::OpenCaller;
 use chord_live_ring::{
@@ -76,34 +77,34 @@ fn alone<J: Naming, R: Abort + Wait + Clock>(rt: &R, alloc: Global, parts: RingP
     let other = ring.sight(rt, alloc, 1);
     let is_seen = matches!(&other, Ok(None));
     drop(other);
-    assert!(rt; is_seen, "there is no node 1 to be seen");
+    check!(rt; is_seen, "there is no node 1 to be seen");
     crashes(rt, alloc, &ring);
     ring.close();
 }
 
 fn is_new<R: Abort>(rt: &R, sight: &NodeSight) {
-    assert!(rt; sight.number == 0, "the first node has number 0");
-    assert!(rt; sight.id == Id::new(A), "and its identifier");
-    assert!(rt; sight.phase == Phase::Staying, "it stays");
-    assert!(rt; !sight.crashed, "it did not crash");
-    assert!(rt; sight.predecessor == None, "it knows no predecessor");
-    assert!(rt;
+    check!(rt; sight.number == 0, "the first node has number 0");
+    check!(rt; sight.id == Id::new(A), "and its identifier");
+    check!(rt; sight.phase == Phase::Staying, "it stays");
+    check!(rt; !sight.crashed, "it did not crash");
+    check!(rt; sight.predecessor == None, "it knows no predecessor");
+    check!(rt;
         sight.successors.as_slice() == [0u64].as_slice(),
         "it is its own successor"
     );
-    assert!(rt; sight.fingers == 0, "it knows no finger");
-    assert!(rt;
+    check!(rt; sight.fingers == 0, "it knows no finger");
+    check!(rt;
         holds_alone(sight, span(A, A), 0),
         "it holds the whole circle"
     );
-    assert!(rt; sight.pairs == 0, "it has no pair");
-    assert!(rt; sight.outbox.is_empty(), "it gives nothing");
-    assert!(rt; sight.counts.asks == asks(0, 0, 0, 0), "it got no request");
-    assert!(rt;
+    check!(rt; sight.pairs == 0, "it has no pair");
+    check!(rt; sight.outbox.is_empty(), "it gives nothing");
+    check!(rt; sight.counts.asks == asks(0, 0, 0, 0), "it got no request");
+    check!(rt;
         sight.counts.handovers == handovers(0, 0),
         "it took part in no handover"
     );
-    assert!(rt; sight.counts.ticks == 0, "it had no upkeep");
+    check!(rt; sight.counts.ticks == 0, "it had no upkeep");
 }
 
 /// Two callers ask for room for a pair each.
@@ -118,23 +119,23 @@ fn answers_two<J: Naming, R: Abort + Wait + Clock>(
     let full = call(rt, &mut one, 0, Request::insert(alloc, b"a", b"y"));
     drop(one);
     drop(zero);
-    assert!(rt; added == Ok(Said::Added), "a node with room adds a pair");
-    assert!(rt;
+    check!(rt; added == Ok(Said::Added), "a node with room adds a pair");
+    check!(rt;
         full == Err(AskFault::Wait(WaitFault::Full)),
         "a full store answers Full"
     );
 }
 
 fn has_answered<R: Abort>(rt: &R, sight: &NodeSight) {
-    assert!(rt;
+    check!(rt;
         sight.counts.asks == asks(1, 0, 0, 1),
         "one request was told its reply, and one that the store is full"
     );
-    assert!(rt;
+    check!(rt;
         holds_alone(sight, span(A, A), 1),
         "a reply that was told is kept, and Full is none"
     );
-    assert!(rt; sight.pairs == 1, "one pair was added");
+    check!(rt; sight.pairs == 1, "one pair was added");
 }
 
 /// How a page looks.
@@ -157,7 +158,7 @@ fn page_of<J: Naming, S: EntryStore, R: Abort + Wait>(
     let page = page.expect(rt, "memory for a page")?;
     let are_of_key = page.pairs.iter().all(|placed| placed.pair.key.as_slice() == key
         && placed.id == Id::of_bytes(key));
-    assert!(rt;
+    check!(rt;
         are_of_key,
         "the pairs are of the key, and have its identifier"
     );
@@ -178,7 +179,7 @@ fn tells_its_pair<J: Naming, R: Abort + Wait>(rt: &R, alloc: Global, ring: &Ring
         pairs: 0,
         next: Some(Id::new(A)),
     };
-    assert!(rt;
+    check!(rt;
         page_of(rt, alloc, ring, 0, Id::new(0), b"a") == Some(before),
         "a page goes up to the node's identifier"
     );
@@ -186,7 +187,7 @@ fn tells_its_pair<J: Naming, R: Abort + Wait>(rt: &R, alloc: Global, ring: &Ring
         pairs: 1,
         next: Some(Id::new(ID_OF_A)),
     };
-    assert!(rt;
+    check!(rt;
         page_of(rt, alloc, ring, 0, Id::new(A + 1), b"a") == Some(with_pair),
         "a page of one pair ends with it"
     );
@@ -194,54 +195,54 @@ fn tells_its_pair<J: Naming, R: Abort + Wait>(rt: &R, alloc: Global, ring: &Ring
         pairs: 0,
         next: None,
     };
-    assert!(rt;
+    check!(rt;
         page_of(rt, alloc, ring, 0, Id::new(ID_OF_A + 1), b"a") == Some(behind),
         "the last page ends at the greatest identifier"
     );
-    assert!(rt;
+    check!(rt;
         page_of(rt, alloc, ring, 1, Id::new(0), b"a") == None,
         "there is no node 1 to tell a page"
     );
 }
 
 fn is_ticked<R: Abort>(rt: &R, sight: &NodeSight) {
-    assert!(rt; sight.counts.ticks == 2, "it had two rounds of upkeep");
-    assert!(rt; sight.fingers == 2, "each round finds a finger");
+    check!(rt; sight.counts.ticks == 2, "it had two rounds of upkeep");
+    check!(rt; sight.fingers == 2, "each round finds a finger");
 }
 
 /// The only node may not crash. Once it did, it is seen as it was.
 fn crashes<J: Naming, R: Abort + Wait>(rt: &R, alloc: Global, ring: &Ring<J, CappedStore>) {
-    assert!(rt;
+    check!(rt;
         ring.may_crash(rt, 0) == Ok(false),
         "no ring stands without its only node"
     );
-    assert!(rt;
+    check!(rt;
         ring.may_crash(rt, 1) == Err(NoSuchNode),
         "there is no node 1"
     );
-    assert!(rt; ring.phase_of(rt, 0) == Some(Phase::Staying), "it stays");
-    assert!(rt; ring.phase_of(rt, 1) == None, "nobody else does");
+    check!(rt; ring.phase_of(rt, 0) == Some(Phase::Staying), "it stays");
+    check!(rt; ring.phase_of(rt, 1) == None, "nobody else does");
     let crashed = ring.crash(rt, 0);
-    assert!(rt; crashed == Ok(()), "it crashes all the same");
-    assert!(rt;
+    check!(rt; crashed == Ok(()), "it crashes all the same");
+    check!(rt;
         ring.phase_of(rt, 0) == None,
         "a node that crashed has no phase"
     );
-    assert!(rt;
+    check!(rt;
         ring.may_crash(rt, 0) == Ok(false),
         "and is no member that could crash"
     );
-    assert!(rt;
+    check!(rt;
         ring.holding(rt, 0, Id::new(A)) == Some(Holder::Node(0)),
         "but it holds what it held"
     );
-    assert!(rt;
+    check!(rt;
         page_of(rt, alloc, ring, 0, Id::new(A), b"a") == None,
         "though it tells no pairs"
     );
     let sight = sight_of(rt, alloc, ring, 0);
-    assert!(rt; sight.crashed, "a node that crashed is seen as such");
-    assert!(rt; sight.pairs == 1, "with what it had");
+    check!(rt; sight.crashed, "a node that crashed is seen as such");
+    check!(rt; sight.pairs == 1, "with what it had");
     drop(sight);
 }
 
@@ -261,9 +262,9 @@ fn gives<J: Naming + Send + Sync, R: Abort + Threads + Wait + Clock + Sync>(
 {
     let ring = founded::<J, CappedStore, R>(rt, parts, CappedStore::new(alloc, 4));
     let added = insert_by_another(rt, alloc, &ring, (Way::Carried, 0), (b"abc", b"x"));
-    assert!(rt; added == Ok(Said::Added), "node 0 holds all keys");
+    check!(rt; added == Ok(Said::Added), "node 0 holds all keys");
     let joined = succeeds(ring.join(rt, Id::new(M), 0, CappedStore::new(alloc, 4)));
-    assert!(rt; joined, "a second node joins by the first");
+    check!(rt; joined, "a second node joins by the first");
     for _ in 0..8u64 {
         tick_both(rt, &ring);
     }
@@ -276,12 +277,12 @@ fn gives<J: Naming + Send + Sync, R: Abort + Threads + Wait + Clock + Sync>(
 
 /// Nobody took in what node 0 gave: it is in its outbox.
 fn is_giving<R: Abort>(rt: &R, sight: &NodeSight) {
-    assert!(rt;
+    check!(rt;
         sight.successors.as_slice() == [1u64, 0u64].as_slice(),
         "node 1 comes behind node 0"
     );
-    assert!(rt; sight.predecessor == Some(1), "and before it");
-    assert!(rt;
+    check!(rt; sight.predecessor == Some(1), "and before it");
+    check!(rt;
         holds_alone(sight, span(M, A), 0),
         "it holds what is its own"
     );
@@ -291,23 +292,23 @@ fn is_giving<R: Abort>(rt: &R, sight: &NodeSight) {
         span: span(A, M),
         pairs: 1,
     };
-    assert!(rt;
+    check!(rt;
         sight.outbox.as_slice() == [given].as_slice(),
         "it gives the rest, with `abc`"
     );
-    assert!(rt; sight.pairs == 0, "which it has no more");
-    assert!(rt;
+    check!(rt; sight.pairs == 0, "which it has no more");
+    check!(rt;
         sight.counts.handovers == handovers(1, 0),
         "it gave one segment"
     );
-    assert!(rt; sight.counts.ticks == 8, "it had eight rounds of upkeep");
+    check!(rt; sight.counts.ticks == 8, "it had eight rounds of upkeep");
 }
 
 fn is_joined<R: Abort>(rt: &R, sight: &NodeSight) {
-    assert!(rt; sight.number == 1, "the second node has number 1");
-    assert!(rt; sight.id == Id::new(M), "and its identifier");
-    assert!(rt; sight.segments.is_empty(), "it holds nothing yet");
-    assert!(rt;
+    check!(rt; sight.number == 1, "the second node has number 1");
+    check!(rt; sight.id == Id::new(M), "and its identifier");
+    check!(rt; sight.segments.is_empty(), "it holds nothing yet");
+    check!(rt;
         sight.counts.handovers == handovers(0, 0),
         "it took nothing yet"
     );
@@ -325,23 +326,23 @@ fn is_under_way<J: Naming, S: EntryStore, R: Abort + Wait>(
         to: 1,
         number: 1,
     };
-    assert!(rt;
+    check!(rt;
         ring.holding(rt, 0, key) == Some(given),
         "node 0 hands the key over"
     );
-    assert!(rt;
+    check!(rt;
         ring.holding(rt, 1, key) == None,
         "node 1 does not hold it yet"
     );
-    assert!(rt;
+    check!(rt;
         page_of(rt, alloc, ring, 0, key, b"abc") == None,
         "node 0 tells no pairs of what it gives"
     );
-    assert!(rt;
+    check!(rt;
         page_of(rt, alloc, ring, 1, key, b"abc") == None,
         "nor does node 1"
     );
-    assert!(rt;
+    check!(rt;
         ring.holding(rt, 0, Id::new(A)) == Some(Holder::Node(0)),
         "node 0 holds its own identifier"
     );
@@ -381,15 +382,15 @@ fn has_given<J: Naming, S: EntryStore, R: Abort + Wait + Clock>(
 ) {
     wait_for_workers(rt, alloc, ring);
     let added = insert_by_another(rt, alloc, ring, (Way::Carried, 0), (b"abc", b"y"));
-    assert!(rt; added == Ok(Said::Added), "node 1 adds a pair");
+    check!(rt; added == Ok(Said::Added), "node 1 adds a pair");
     has_passed_on(rt, &sight_of(rt, alloc, ring, 0));
     has_taken(rt, &sight_of(rt, alloc, ring, 1));
     let key = Id::of_bytes(b"abc");
-    assert!(rt;
+    check!(rt;
         ring.holding(rt, 1, key) == Some(Holder::Node(1)),
         "node 1 holds the key"
     );
-    assert!(rt;
+    check!(rt;
         ring.holding(rt, 0, key) == None,
         "node 0 neither holds it nor hands it over"
     );
@@ -397,36 +398,36 @@ fn has_given<J: Naming, S: EntryStore, R: Abort + Wait + Clock>(
         pairs: 2,
         next: Some(key),
     };
-    assert!(rt;
+    check!(rt;
         page_of(rt, alloc, ring, 1, key, b"abc") == Some(both),
         "node 1 tells both pairs of the key in a page of one"
     );
-    assert!(rt;
+    check!(rt;
         ring.may_crash(rt, 0) == Ok(true),
         "the ring stands without node 0"
     );
 }
 
 fn has_counted<R: Abort>(rt: &R, sight: &NodeSight, asked: AskCounts, handed: HandoverCounts) {
-    assert!(rt; sight.counts.asks == asked, "each request is counted");
-    assert!(rt;
+    check!(rt; sight.counts.asks == asked, "each request is counted");
+    check!(rt;
         sight.counts.handovers == handed,
         "each handover is counted"
     );
 }
 
 fn has_passed_on<R: Abort>(rt: &R, sight: &NodeSight) {
-    assert!(rt; sight.outbox.is_empty(), "what was given was taken");
+    check!(rt; sight.outbox.is_empty(), "what was given was taken");
     // Node 0 told one reply, passed the next request on, and gave one segment.
     has_counted(rt, sight, asks(1, 1, 0, 0), handovers(1, 0));
 }
 
 fn has_taken<R: Abort>(rt: &R, sight: &NodeSight) {
-    assert!(rt;
+    check!(rt;
         holds_alone(sight, span(A, M), 2),
         "node 1 holds what was given, with the replies to both callers"
     );
-    assert!(rt; sight.pairs == 2, "and with both pairs");
+    check!(rt; sight.pairs == 2, "and with both pairs");
     // Node 1 told the reply, and took one segment, however often its part came.
     has_counted(rt, sight, asks(1, 0, 0, 0), handovers(0, 1));
 }
@@ -438,9 +439,9 @@ fn asks_by_a_crashed_node<J: Naming, S: EntryStore, R: Abort + Wait + Clock>(
     ring: &Ring<J, S>,
 ) {
     let crashed = ring.crash(rt, 1);
-    assert!(rt; crashed == Ok(()), "node 1 crashes");
+    check!(rt; crashed == Ok(()), "node 1 crashes");
     let added = insert_by_another(rt, alloc, ring, (Way::Carried, 1), (b"eq", b"x"));
-    assert!(rt;
+    check!(rt;
         added == Ok(Said::Added),
         "a call by a node that crashed begins at the next live one"
     );

@@ -5,6 +5,7 @@ ghost use Rattle.chord_caller.specs.Caller.{CallerStep};
 ghost use Rattle.chord_caller.specs.Caller.Letter.{AskLetter};
 
 use super::{Said, founded, parts_with, said_in, settings};
+use crate::checks::check;
 use chord_caller::{Ask, CallerCore};
 use chord_ident::Id;
 use chord_live_ring::{Keyed, Ring, RingParts, Target};
@@ -38,18 +39,18 @@ fn carries<J: Naming, R: Abort + Wait + Clock>(rt: &R, alloc: Global, parts: Rin
 {
     let ring = founded::<J, CappedStore, R>(rt, parts, CappedStore::new(alloc, 1));
     let told = told_by_id(rt, alloc, &ring);
-    assert!(rt;
+    check!(rt;
         told == Some(ADDED),
         "the reply to a call comes back to its caller"
     );
     admits_a_client(rt, &ring);
-    assert!(rt; ring.is_live(0), "node 0 is a member");
-    assert!(rt; !ring.is_live(1), "there is no node 1");
+    check!(rt; ring.is_live(0), "node 0 is a member");
+    check!(rt; !ring.is_live(1), "there is no node 1");
     let crashed = ring.crash(rt, 0).is_ok();
     let is_live = ring.is_live(0);
     ring.close();
-    assert!(rt; crashed, "a member can crash");
-    assert!(rt; !is_live, "a node that crashed is no member");
+    check!(rt; crashed, "a member can crash");
+    check!(rt; !is_live, "a node that crashed is no member");
 }
 
 /// The reply to an insert of the first caller, which is carried with the identifier of its key.
@@ -61,29 +62,29 @@ fn told_by_id<J: Naming, R: Abort + Wait + Clock>(
     let (mut core, mut seat) = ring.admit_caller(rt, 1).ok()?;
     let ask = submitted(alloc, &mut core)?;
     let keyed = Keyed::new(seat.send(ring.table(), &core, Message::Ask(ask)));
-    assert!(rt;
+    check!(rt;
         keyed.id == Id::of_bytes(b"a"),
         "a call goes with the identifier of its key"
     );
     let carried = ring.carry_keyed(rt, 0, keyed)?;
-    assert!(rt; carried.from == 0, "node 0 answers");
-    assert!(rt; carried.caller == 0, "the first caller has number 0");
+    check!(rt; carried.from == 0, "node 0 answers");
+    check!(rt; carried.caller == 0, "the first caller has number 0");
     told_in(seat.receive(ring.table(), carried.envelope))
 }
 
 fn admits_a_client<J: Naming, R: Abort + Wait>(rt: &R, ring: &Ring<J, CappedStore>) {
     let Ok((core, seat)) = ring.admit_client(rt, 2) else {
-        assert!(rt; false, "a ring for two callers admits a client too");
+        check!(rt; false, "a ring for two callers admits a client too");
         return;
     };
     let (number, floor, pending) = (core.number(), core.floor(), core.pending());
     drop(seat);
     drop(core);
-    assert!(rt; number == 1, "it has the next number");
-    assert!(rt; floor == 0, "it took no reply");
-    assert!(rt; pending == None, "and waits for none");
+    check!(rt; number == 1, "it has the next number");
+    check!(rt; floor == 0, "it took no reply");
+    check!(rt; pending == None, "and waits for none");
     let spent = ring.admit_client(rt, 2).err();
-    assert!(rt;
+    check!(rt;
         spent == Some(OpenClientFault::CallersSpent),
         "a ring for two callers admits no third one"
     );
@@ -97,30 +98,30 @@ fn stands<J: Naming, R: Abort + Wait + Clock>(rt: &R, alloc: Global, parts: Ring
     runs(rt, &ring);
     admits(rt, alloc, &ring);
     let spent = ring.admit_caller(rt, 1).err();
-    assert!(rt;
+    check!(rt;
         spent == Some(OpenFault::CallersSpent),
         "a ring for one caller admits no second one"
     );
     ring.stop();
     let (is_stopped, left) = (ring.is_stopped(), ring.time_left(rt, &None));
     ring.close();
-    assert!(rt; is_stopped, "a ring that was stopped is stopped");
-    assert!(rt;
+    check!(rt; is_stopped, "a ring that was stopped is stopped");
+    check!(rt;
         left == Duration::from_millis(0),
         "in a stopped ring nobody waits"
     );
 }
 
 fn runs<J: Naming, R: Abort + Wait + Clock>(rt: &R, ring: &Ring<J, CappedStore>) {
-    assert!(rt; ring.was_admitted(0), "node 0 was created");
-    assert!(rt; !ring.was_admitted(1), "node 1 was not");
-    assert!(rt; !ring.is_stopped(), "the ring runs");
-    assert!(rt;
+    check!(rt; ring.was_admitted(0), "node 0 was created");
+    check!(rt; !ring.was_admitted(1), "node 1 was not");
+    check!(rt; !ring.is_stopped(), "the ring runs");
+    check!(rt;
         ring.tries() == 3,
         "a request is sent as often as the settings say"
     );
     let left = ring.time_left(rt, &None);
-    assert!(rt;
+    check!(rt;
         left == Duration::from_millis(5),
         "and waits as long as they say"
     );
@@ -128,20 +129,20 @@ fn runs<J: Naming, R: Abort + Wait + Clock>(rt: &R, ring: &Ring<J, CappedStore>)
 
 fn admits<J: Naming, R: Abort + Wait + Clock>(rt: &R, alloc: Global, ring: &Ring<J, CappedStore>) {
     let Ok((mut core, mut seat)) = ring.admit_caller(rt, 1) else {
-        assert!(rt; false, "a ring for one caller admits one");
+        check!(rt; false, "a ring for one caller admits one");
         return;
     };
     let number = core.number();
     let told = answered(rt, alloc, ring, number, &mut core, &mut seat);
     drop(seat);
     drop(core);
-    assert!(rt; number == 0, "the first caller has number 0");
-    assert!(rt;
+    check!(rt; number == 0, "the first caller has number 0");
+    check!(rt;
         told == Some(ADDED),
         "its insert is carried, and the reply comes to it"
     );
     let more = is_there(ring.hear(rt, number, Duration::from_millis(0)));
-    assert!(rt; !more, "nothing else comes");
+    check!(rt; !more, "nothing else comes");
 }
 
 /// Whether there is a value.

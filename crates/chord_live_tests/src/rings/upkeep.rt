@@ -6,6 +6,7 @@ use super::{
     C, Said, Way, ask, call, founded, insert_by_another, parts_with, said_by, settings, succeeds,
     tick, tick_both,
 };
+use crate::checks::check;
 use chord_ident::Id;
 use chord_links::Links;
 use chord_live::{Caller, OpenCaller, RingClient};
@@ -125,7 +126,7 @@ fn two_nodes<J: Naming + Send + Sync, R: Abort + Threads + Wait + Clock + Sync>(
     let store = CappedStore::new(alloc, 4);
     let ring = founded::<J, CappedStore, R>(rt, parts, store);
     let joined = succeeds(ring.join(rt, place_of(then), 0, CappedStore::new(alloc, 4)));
-    assert!(rt; joined, "a second node joins by the first");
+    check!(rt; joined, "a second node joins by the first");
     worked(rt, alloc, &ring, then);
     ring.close();
 }
@@ -158,8 +159,8 @@ fn worked<J: Naming + Send + Sync, R: Abort + Threads + Wait + Clock + Sync>(
             )
         },
     );
-    assert!(rt; first, "worker 0 ends when the ring is stopped");
-    assert!(rt; second, "worker 1 ends when the ring is stopped");
+    check!(rt; first, "worker 0 ends when the ring is stopped");
+    check!(rt; second, "worker 1 ends when the ring is stopped");
 }
 
 /// Does eight rounds of ticks, and what is done then.
@@ -228,19 +229,19 @@ fn two_locks<
         move || insert_by_another(rt, alloc, ring, (Way::Sent, 0), (b"b", b"y")),
         move || ask_while_held(rt, alloc, ring, probe),
     );
-    assert!(rt;
+    check!(rt;
         one.is_held_before,
         "worker 0 is held in its lock by the call for `b`"
     );
-    assert!(rt;
+    check!(rt;
         one.answer == Some(Ok(Said::Added)),
         "node 1 answers while node 0 is locked"
     );
-    assert!(rt;
+    check!(rt;
         one.is_held_after,
         "worker 0 was held until that was answered"
     );
-    assert!(rt; zero == Ok(Said::Added), "node 0 answers once it is opened");
+    check!(rt; zero == Ok(Said::Added), "node 0 answers once it is opened");
 }
 
 /// A caller whose insert of x under `abc` by node 0 was passed on to node 1.
@@ -251,7 +252,7 @@ fn caller_of_abc<'a, J: Naming, S: EntryStore, R: Abort + Wait + Clock>(
 ) -> Caller<'a, J, S> {
     let mut caller = ring.open_caller(rt, 1).expect(rt, "a caller");
     let added = ask(rt, &mut caller, 0, Request::insert(alloc, b"abc", b"x"));
-    assert!(rt;
+    check!(rt;
         added == Ok(Said::Added),
         "a call is passed on to the node that holds its key"
     );
@@ -266,11 +267,11 @@ fn crash<J: Naming, S: EntryStore, R: Abort + Wait + Clock>(
 ) {
     let mut caller = caller_of_abc(rt, alloc, ring);
     let crashed = ring.crash(rt, 0);
-    assert!(rt; crashed == Ok(()), "node 0 crashes");
+    check!(rt; crashed == Ok(()), "node 0 crashes");
     let ticked = ring.tick(rt, 1);
-    assert!(rt; ticked.is_ok(), "node 1 drops it");
+    check!(rt; ticked.is_ok(), "node 1 drops it");
     let seen = ask(rt, &mut caller, 1, Request::retrieve(alloc, b"abc"));
-    assert!(rt; seen == Ok(Said::OnlyX), "node 1 answers for what it holds");
+    check!(rt; seen == Ok(Said::OnlyX), "node 1 answers for what it holds");
     drop(caller);
 }
 
@@ -282,11 +283,11 @@ fn leave<J: Naming, S: EntryStore, R: Abort + Wait + Clock>(
 ) {
     let mut caller = caller_of_abc(rt, alloc, ring);
     let called = call(rt, &mut caller, 0, Request::retrieve(alloc, b"abc"));
-    assert!(rt; called == Ok(Said::OnlyX), "so is one that is carried");
+    check!(rt; called == Ok(Said::OnlyX), "so is one that is carried");
     retire(rt, ring);
     forget(rt, ring);
     let seen = ask(rt, &mut caller, 0, Request::retrieve(alloc, b"abc"));
-    assert!(rt; seen == Ok(Said::OnlyX), "node 0 has what node 1 held");
+    check!(rt; seen == Ok(Said::OnlyX), "node 0 has what node 1 held");
     drop(caller);
 }
 
@@ -298,21 +299,21 @@ fn guess<J: Naming, S: EntryStore, R: Abort + Wait + Clock>(
 ) {
     let mut client = ring.open_client(rt, 1).expect(rt, "a client");
     let added = call(rt, &mut client, 0, Request::insert(alloc, b"abc", b"x"));
-    assert!(rt;
+    check!(rt;
         added == Ok(Said::Added),
         "a call is passed on to the node that holds its key"
     );
     let other = call(rt, &mut client, 0, Request::insert(alloc, b"eq", b"y"));
-    assert!(rt;
+    check!(rt;
         other == Ok(Said::Added),
         "a call with a wrong guess is passed on too"
     );
     let seen = call(rt, &mut client, 0, Request::retrieve(alloc, b"abc"));
-    assert!(rt; seen == Ok(Said::OnlyX), "node 1 answers for `abc`");
+    check!(rt; seen == Ok(Said::OnlyX), "node 1 answers for `abc`");
     let crashed = ring.crash(rt, 0);
-    assert!(rt; crashed == Ok(()), "node 0 crashes");
+    check!(rt; crashed == Ok(()), "node 0 crashes");
     let again = call(rt, &mut client, 0, Request::retrieve(alloc, b"abc"));
-    assert!(rt;
+    check!(rt;
         again == Ok(Said::OnlyX),
         "the client begins at node 1, which answered last"
     );
@@ -354,24 +355,24 @@ fn guess_crashed<J: Naming, S: EntryStore, R: Abort + Wait + Clock>(
     alloc: Global,
     ring: &Ring<J, S>,
 ) {
-    assert!(rt; ring.tries() == 1, "a request is sent once");
+    check!(rt; ring.tries() == 1, "a request is sent once");
     let mut client = ring.open_client(rt, 1).expect(rt, "a client");
     let added = insert_x_until_answered(rt, alloc, &mut client);
-    assert!(rt; added == Some(Said::Added), "x is added under `abc`");
+    check!(rt; added == Some(Said::Added), "x is added under `abc`");
     let seen = call(rt, &mut client, 0, Request::retrieve(alloc, b"abc"));
-    assert!(rt;
+    check!(rt;
         seen == Ok(Said::OnlyX),
         "the first call for `abc` is answered"
     );
     let crashed = ring.crash(rt, 1);
-    assert!(rt; crashed == Ok(()), "node 1 crashes");
+    check!(rt; crashed == Ok(()), "node 1 crashes");
     let other = call(rt, &mut client, 0, Request::insert(alloc, b"eq", b"y"));
-    assert!(rt;
+    check!(rt;
         other == Ok(Said::Added),
         "the first node that is asked for `eq` is not node 1"
     );
     let lost = call(rt, &mut client, 0, Request::retrieve(alloc, b"abc"));
-    assert!(rt;
+    check!(rt;
         lost == Err(AskFault::Wait(WaitFault::NoAnswer)),
         "node 1 was the one that answered for `abc`"
     );
@@ -381,7 +382,7 @@ fn guess_crashed<J: Naming, S: EntryStore, R: Abort + Wait + Clock>(
 /// Node 1 leaves, and retires once node 0 holds all that it held.
 fn retire<J: Naming, S: EntryStore, R: Abort + Wait + Clock>(rt: &R, ring: &Ring<J, S>) {
     let leaves = ring.leave(rt, 1);
-    assert!(rt; leaves == Ok(()), "node 1 begins to leave");
+    check!(rt; leaves == Ok(()), "node 1 begins to leave");
     let mut is_retired = false;
     for _ in 0..1_000u64 {
         if !is_retired {
@@ -390,7 +391,7 @@ fn retire<J: Naming, S: EntryStore, R: Abort + Wait + Clock>(rt: &R, ring: &Ring
             is_retired = ring.retire(rt, 1).is_ok();
         }
     }
-    assert!(rt; is_retired, "node 1 retires once what it held was taken");
+    check!(rt; is_retired, "node 1 retires once what it held was taken");
 }
 
 /// After its next tick node 0 has no finger at node 1.
@@ -398,7 +399,7 @@ fn forget<J: Naming, S: EntryStore, R: Abort + Wait + Clock>(rt: &R, ring: &Ring
     tick(rt, ring, 0);
     let links = ring.links_of(rt, 0).expect(rt, "the links of node 0");
     let finger = finger_at_1(&links);
-    assert!(rt; finger == None, "no finger is at a node that retired");
+    check!(rt; finger == None, "no finger is at a node that retired");
 }
 
 /// The first finger that is at node 1.

@@ -1,6 +1,7 @@
 //! Workers of one or two nodes, and what is done beside them.
 
 use super::{callers, growths, kinds, pairs_of_nodes, pieces, settling, sights};
+use crate::checks::check;
 use chord_live_ring::{NoProbe, Ring};
 use chord_store::EntryStore;
 use chord_table::Naming;
@@ -92,5 +93,5 @@ pub fn with_two_workers<
         move || ring.work(rt, 0, &NoProbe).is_ok(),
         move || with_worker_of(rt, alloc, ring, 1, deed),
     );
-    assert!(rt; ended, "the worker of node 0 ends when the ring is stopped");
+    check!(rt; ended, "the worker of node 0 ends when the ring is stopped");
 }

@@ -3,6 +3,7 @@ ghost use Rattle.std.specs.Prelude.{◌≡◌, IfOk, OnOk};
 ghost use Rattle.chord_caller.specs.Client.{IsCoreOf};
 
 use super::{founded, insert, is_first_call, let_go, reply};
+use crate::checks::check;
 use chord_caller::{ClientCore, TakeOutcome};
 use chord_map::{Reply, Request};
 use chord_node::{Message, Node};
@@ -15,7 +16,7 @@ use std::test::Fail;
 #[test]
 fn a_reply_is_handed_out(rt: HostRuntime) -> Result<(), Fail> {
     let parts = Registrar::open(rt.alloc(), 2, 1)?;
-    assert!(rt; hands_out::<Brand>(rt.alloc(), parts)?);
+    check!(&rt; hands_out::<Brand>(rt.alloc(), parts)?);
     Ok(())
 }
 

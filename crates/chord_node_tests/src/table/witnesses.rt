@@ -3,6 +3,7 @@ ghost use Rattle.std.specs.Prelude.{◌≡◌, [], ◌∷◌};
 ghost use Rattle.chord_table.specs.Shown.{WitnessShown};
 
 use super::{Exchange, FRESH_AND_ADDED, founded, hears, let_go};
+use crate::checks::check;
 use chord_caller::CallerCore;
 use chord_store::CappedStore;
 use chord_table::{CallerSeat, Naming, Registrar, Shared, TableParts, Witness};
@@ -14,7 +15,7 @@ use std::test::Fail;
 fn two_callers_share_a_world(rt: HostRuntime) -> Result<(), Fail> {
     let parts = Registrar::open(rt.alloc(), 2, 2)?;
     let heard = two_share_a_world::<Brand>(rt.alloc(), parts)?;
-    assert!(rt; heard == FRESH_AND_ADDED);
+    check!(&rt; heard == FRESH_AND_ADDED);
     Ok(())
 }
 

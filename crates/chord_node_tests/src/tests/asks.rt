@@ -1,6 +1,7 @@
 //! What a node does with calls. Each test is a script of calls about `abc`, sent by caller 0.
 
 use super::{A, C, founder, newborn};
+use crate::checks::check;
 use chord_caller::Ask;
 use chord_ident::Id;
 use chord_links::{Links, Peer, SuccList};
@@ -20,7 +21,7 @@ const OTHER: Peer = Peer {
     id: Id { number: A },
 };
 
-#[derive(Clone, Copy, Debug, PartialEq, Eq)]
+#[derive(Clone, Copy, PartialEq, Eq)]
 enum Asked {
     /// Insert this value under `abc`.
     Insert(&'static [u8]),
@@ -28,7 +29,7 @@ enum Asked {
     Retrieve,
 }
 
-#[derive(Clone, Copy, Debug, PartialEq, Eq)]
+#[derive(Clone, Copy, PartialEq, Eq)]
 struct Call {
     number: u64,
     floor: u64,
@@ -37,7 +38,7 @@ struct Call {
 }
 
 /// A reply, without its values.
-#[derive(Clone, Copy, Debug, PartialEq, Eq)]
+#[derive(Clone, Copy, PartialEq, Eq)]
 enum Said {
     Added,
     Present,
@@ -50,14 +51,14 @@ enum Said {
 }
 
 /// A reply to the call of this caller and number.
-#[derive(Clone, Copy, Debug, PartialEq, Eq)]
+#[derive(Clone, Copy, PartialEq, Eq)]
 struct Told {
     caller: u64,
     number: u64,
     said: Said,
 }
 
-#[derive(Clone, Copy, Debug, PartialEq, Eq)]
+#[derive(Clone, Copy, PartialEq, Eq)]
 enum Answer {
     Told(Told),
     /// The call of this number goes on to a node.
@@ -67,7 +68,7 @@ enum Answer {
 }
 
 /// What a node does with a call: what it answers, and the call that it records as executed.
-#[derive(Clone, Copy, Debug, PartialEq, Eq)]
+#[derive(Clone, Copy, PartialEq, Eq)]
 struct Seen {
     answer: Answer,
     executed: Option<Told>,
@@ -82,7 +83,7 @@ struct Step {
 }
 
 /// How a call comes to a node.
-#[derive(Clone, Copy, Debug, PartialEq, Eq)]
+#[derive(Clone, Copy, PartialEq, Eq)]
 enum Way {
     /// By `on_ask`, which records what it executes.
     Lent,
@@ -144,8 +145,8 @@ fn request_of(alloc: Global, asked: Asked) -> Result<Request, AllocError> {
 }
 
 fn ask_of(rt: &impl Abort, alloc: Global, call: Call) -> Ask {
-    assert!(rt; call.floor < call.number, "a call is above its floor");
-    assert!(rt; call.number - call.floor <= 16, "and at most 16 above it");
+    check!(rt; call.floor < call.number, "a call is above its floor");
+    check!(rt; call.number - call.floor <= 16, "and at most 16 above it");
     Ask {
         caller: 0,
         number: call.number,
@@ -200,7 +201,7 @@ fn follow(rt: &impl Abort, alloc: Global, mut node: Node<CappedStore>, way: Way,
             },
         };
         let rule = step.rule;
-        assert!(rt; seen == wanted, "{rule}: {seen:?}");
+        check!(rt; seen == wanted, rule);
     }
     drop(node);
 }
@@ -351,8 +352,8 @@ const LOST: &[Step] = &[Step {
 #[test]
 fn a_newborn_node_drops_a_call(rt: HostRuntime) {
     let node = newborn(rt.alloc(), 1);
-    assert!(rt; node.phase() == Phase::Staying, "a newborn node stays");
-    assert!(rt; node.number() == 1, "a node has the number of its links");
+    check!(&rt; node.phase() == Phase::Staying, "a newborn node stays");
+    check!(&rt; node.number() == 1, "a node has the number of its links");
     follow(&rt, rt.alloc(), node, Way::Lent, LOST);
 }
 
@@ -384,7 +385,7 @@ const PASSED_ON: &[Step] = &[GOES_ON, NO_HOPS];
 #[test]
 fn a_call_is_passed_on(rt: HostRuntime) {
     let node = neighbour(rt.alloc());
-    assert!(rt; node.links().first() == OTHER, "the links are set");
+    check!(&rt; node.links().first() == OTHER, "the links are set");
     follow(&rt, rt.alloc(), node, Way::Lent, PASSED_ON);
 }
 
@@ -411,7 +412,7 @@ const LAST_HOP: &[Step] = &[
 #[test]
 fn a_call_goes_to_its_last_hop(rt: HostRuntime) {
     let node = newborn_before(rt.alloc(), OTHER, ME);
-    assert!(rt;
+    check!(&rt;
         node.links().list().entries() == [ME, OTHER].as_slice(),
         "its list is C and A"
     );

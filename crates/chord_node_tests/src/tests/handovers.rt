@@ -5,6 +5,7 @@ use super::scripts::{
     Outcome, PUT_X, Pairs, PartShown, State, Step, WHOLE, follow, follow_founder, giver,
 };
 use super::{A, B, C, founder, newborn};
+use crate::checks::check;
 use chord_handover::{Part, Ticket};
 use chord_ident::{Id, Span};
 use chord_map::Bytes;
@@ -341,11 +342,11 @@ fn sent_again(rt: &impl Abort, alloc: Global) -> Compared {
 #[test]
 fn a_part_goes_again(rt: HostRuntime) {
     let again = sent_again(&rt, rt.alloc());
-    assert!(rt; again.has_its_ticket, "it is of the same handover");
-    assert!(rt; again.has_its_place, "it is the same part of it");
-    assert!(rt; again.has_its_segment, "it has the same segment");
-    assert!(rt; again.has_its_pairs, "it has the same pairs");
-    assert!(rt; again.pairs == 1, "that is one pair");
+    check!(&rt; again.has_its_ticket, "it is of the same handover");
+    check!(&rt; again.has_its_place, "it is the same part of it");
+    check!(&rt; again.has_its_segment, "it has the same segment");
+    check!(&rt; again.has_its_pairs, "it has the same pairs");
+    check!(&rt; again.pairs == 1, "that is one pair");
 }
 
 pub const DECLINED: &[Step] = &[
@@ -455,7 +456,7 @@ fn use_store(mut store: CappedStore, key: Bytes, value: Bytes) -> GivenBack {
 fn give_back(rt: &impl Abort, alloc: Global, node: Node<CappedStore>) -> GivenBack {
     let key = Bytes::from_slice(alloc, b"a").expect(rt, "memory for a key");
     let value = Bytes::from_slice(alloc, b"x").expect(rt, "memory for a value");
-    assert!(rt;
+    check!(rt;
         node.phase() != Phase::Gone,
         "a node that is not gone has a store"
     );
@@ -465,16 +466,16 @@ fn give_back(rt: &impl Abort, alloc: Global, node: Node<CappedStore>) -> GivenBa
 #[test]
 fn a_store_comes_back(rt: HostRuntime) {
     let store = give_back(&rt, rt.alloc(), newborn(rt.alloc(), 1));
-    assert!(rt; store.count == 0, "it is empty");
-    assert!(rt;
+    check!(&rt; store.count == 0, "it is empty");
+    check!(&rt;
         store.first == Ok(Inserted::Added),
         "it has room for a pair"
     );
-    assert!(rt; store.second == Err(StoreFault::Full), "it has its limit");
+    check!(&rt; store.second == Err(StoreFault::Full), "it has its limit");
 }
 
 /// What a node tells of what it holds and gives.
-#[derive(Clone, Copy, Debug, PartialEq, Eq)]
+#[derive(Clone, Copy, PartialEq, Eq)]
 struct Holdings {
     pairs: u64,
     /// The span of each of the first two segments.
@@ -503,22 +504,22 @@ fn a_node_tells_what_it_holds_and_gives(rt: HostRuntime) {
     follow(&rt, rt.alloc(), &mut node, DECLINED);
     let declined = holdings_of(&node);
     drop(node);
-    assert!(rt;
+    check!(&rt;
         given
             == Holdings {
                 pairs: 0,
                 spans: [Some(C_A), None],
                 outbox: [Some(1), None],
             },
-        "the pair of the segment that it gave is in the outbox: {given:?}"
+        "the pair of the segment that it gave is in the outbox"
     );
-    assert!(rt;
+    check!(&rt;
         declined
             == Holdings {
                 pairs: 1,
                 spans: [Some(C_A), Some(A_C)],
                 outbox: [None, None],
             },
-        "what is declined is held again: {declined:?}"
+        "what is declined is held again"
     );
 }

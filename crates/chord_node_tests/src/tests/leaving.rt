@@ -6,6 +6,7 @@ use super::scripts::{
     A_B, B_C, Deed, EmptyPart, FIRST, FIRST_PART, GAVE_ALL, Item, NEWBORN, ONLY_PART, Outcome,
     PUT_X, Pairs, PartShown, State, Step, WHOLE, follow, follow_founder, follow_newborn,
 };
+use crate::checks::check;
 use chord_handover::Ticket;
 use chord_node::{NotStaying, PartAnswer, Phase, RetireFault};
 use chord_store::NotedStore;
@@ -66,7 +67,7 @@ fn holds_nothing_when_it_retires(rt: HostRuntime) {
 #[test]
 fn says_that_it_does_not_stay(rt: HostRuntime) -> Result<(), AllocError> {
     let text = format!(in rt.alloc(); "{NotStaying}")?;
-    assert!(rt; text.as_str() == "the node is not staying");
+    check!(&rt; text.as_str() == "the node is not staying");
     Ok(())
 }
 
@@ -150,8 +151,8 @@ fn note_retirement(rt: &impl Abort, alloc: Global, note: &Arc<OnceLock<u64>>) ->
 fn a_store_is_dropped_at_retirement(rt: HostRuntime) {
     let note = Arc::new(rt.alloc(), OnceLock::new()).expect(&rt, "memory for a cell");
     let noted = note_retirement(&rt, rt.alloc(), &note);
-    assert!(rt; noted.before == None, "a leaving node has its store");
-    assert!(rt;
+    check!(&rt; noted.before == None, "a leaving node has its store");
+    check!(&rt;
         noted.retired == Some(0),
         "a node that retires drops its store, which is empty"
     );
@@ -185,9 +186,9 @@ fn count_drops(rt: &impl Abort, alloc: Global, drops: &AtomicU64) -> Drops {
 #[test]
 fn a_store_is_dropped_once(rt: HostRuntime) {
     let drops = count_drops(&rt, rt.alloc(), &AtomicU64::new(0));
-    assert!(rt; drops.before == 0, "a leaving node has its store");
-    assert!(rt; drops.retired == 1, "a node that retires drops its store");
-    assert!(rt; drops.after == 1, "a gone node has no store to drop");
+    check!(&rt; drops.before == 0, "a leaving node has its store");
+    check!(&rt; drops.retired == 1, "a node that retires drops its store");
+    check!(&rt; drops.after == 1, "a gone node has no store to drop");
 }
 
 /// Node 1 once it holds nothing, after it took one handover of node 0.

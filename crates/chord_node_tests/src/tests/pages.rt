@@ -2,6 +2,7 @@
 ghost use Rattle.std.specs.Prelude.{◌<◌};
 
 use super::{A, founder, newborn};
+use crate::checks::check;
 use chord_caller::Ask;
 use chord_ident::Id;
 use chord_map::{Bytes, Pair, Request};
@@ -175,7 +176,7 @@ fn insert(rt: &impl Abort, alloc: Global, node: &mut Node<CappedStore>, number: 
     drop(ask);
     let is_told = matches!(&answered, Ok((Answered::Told(_), _)));
     drop(answered);
-    assert!(rt; is_told, "a node that holds the circle adds a pair");
+    check!(rt; is_told, "a node that holds the circle adds a pair");
 }
 
 /// Node 0, at A, which has all rows, put in from the last to the first.
@@ -195,7 +196,7 @@ fn pages_are_in_order_of_identifier(rt: HostRuntime) {
         let page = node.pairs_from(alloc, Id::new(wanted.first), wanted.limit.max(1));
         let page = page.expect(&rt, "memory for a page");
         let rule = wanted.rule;
-        assert!(&rt; is_wanted(page, *wanted), "{rule}");
+        check!(&rt; is_wanted(page, *wanted), rule);
     }
     drop(node);
 }
@@ -208,7 +209,7 @@ fn a_node_tells_no_pairs_of_others(rt: HostRuntime) {
     let is_none = matches!(&page, Ok(None));
     drop(page);
     drop(node);
-    assert!(&rt; is_none, "a node that holds nothing tells no page");
+    check!(&rt; is_none, "a node that holds nothing tells no page");
 }
 
 #[test]
@@ -221,6 +222,6 @@ fn a_pair_is_placed_by_its_key(rt: HostRuntime) -> Result<(), Fail> {
     let placed = PlacedPair::of(pair);
     let is_placed = ROWS.get(3).is_some_and(|row| is_row(&placed, *row));
     drop(placed);
-    assert!(&rt; is_placed, "its identifier begins its key's SHA-1");
+    check!(&rt; is_placed, "its identifier begins its key's SHA-1");
     Ok(())
 }

@@ -2,6 +2,7 @@
 //! that gives, and how the node stands then.
 
 use super::{A, B, C, found, founder, newborn};
+use crate::checks::check;
 use chord_caller::Ask;
 use chord_handover::{Part, Ticket};
 use chord_ident::{Id, Span};
@@ -36,7 +37,7 @@ pub const B_C: Span = Span { upto: AT_C, ..B_A };
 pub const C_A: Span = Span { after: AT_C, ..A_A };
 
 /// A part with no pairs. The first one has an empty segment of the span.
-#[derive(Clone, Copy, Debug, PartialEq, Eq)]
+#[derive(Clone, Copy, PartialEq, Eq)]
 pub struct EmptyPart {
     pub ticket: Ticket,
     pub place: u64,
@@ -70,7 +71,7 @@ pub enum Deed {
 }
 
 /// The pairs of a part.
-#[derive(Clone, Copy, Debug, PartialEq, Eq)]
+#[derive(Clone, Copy, PartialEq, Eq)]
 pub enum Pairs {
     None,
     /// x under `abc` alone.
@@ -79,7 +80,7 @@ pub enum Pairs {
 }
 
 /// Which part it is, and what it has.
-#[derive(Clone, Copy, Debug, PartialEq, Eq)]
+#[derive(Clone, Copy, PartialEq, Eq)]
 pub struct PartShown {
     pub ticket: Ticket,
     pub place: u64,
@@ -89,7 +90,7 @@ pub struct PartShown {
 }
 
 /// What a deed gives.
-#[derive(Clone, Copy, Debug, PartialEq, Eq)]
+#[derive(Clone, Copy, PartialEq, Eq)]
 pub enum Outcome {
     /// The call is executed and answered Added.
     Added,
@@ -114,7 +115,7 @@ pub enum Outcome {
 }
 
 /// An item of an outbox.
-#[derive(Clone, Copy, Debug, PartialEq, Eq)]
+#[derive(Clone, Copy, PartialEq, Eq)]
 pub struct Item {
     pub to: u64,
     pub number: u64,
@@ -122,7 +123,7 @@ pub struct Item {
 }
 
 /// How a node stands.
-#[derive(Clone, Copy, Debug, PartialEq, Eq)]
+#[derive(Clone, Copy, PartialEq, Eq)]
 pub struct State {
     pub phase: Phase,
     /// How many segments it holds, and the spans of the first two.
@@ -304,7 +305,7 @@ fn empty_segment(rt: &impl Abort, alloc: Global, span: Span) -> Box<Segment> {
 }
 
 fn empty_part(rt: &impl Abort, alloc: Global, part: EmptyPart) -> Part {
-    assert!(rt;
+    check!(rt;
         1 <= part.place && part.place <= part.of,
         "parts are counted from 1"
     );
@@ -325,7 +326,7 @@ fn empty_part(rt: &impl Abort, alloc: Global, part: EmptyPart) -> Part {
 }
 
 fn take<S: EntryStore>(rt: &impl Abort, node: &mut Node<S>, part: Part) -> Outcome {
-    assert!(rt; part.to == node.number(), "a part comes to its receiver");
+    check!(rt; part.to == node.number(), "a part comes to its receiver");
     let answer = node.on_give(&part);
     drop(part);
     match answer {
@@ -359,7 +360,7 @@ fn take_x<S: EntryStore>(rt: &impl Abort, alloc: Global, node: &mut Node<S>) -> 
 }
 
 fn got<S: EntryStore>(rt: &impl Abort, node: &mut Node<S>, ticket: Ticket) -> Outcome {
-    assert!(rt; ticket.from == node.number(), "a Got comes to the giver");
+    check!(rt; ticket.from == node.number(), "a Got comes to the giver");
     if node.on_got(&ticket) {
         Outcome::Freed
     } else {
@@ -368,7 +369,7 @@ fn got<S: EntryStore>(rt: &impl Abort, node: &mut Node<S>, ticket: Ticket) -> Ou
 }
 
 fn declined<S: EntryStore>(rt: &impl Abort, node: &mut Node<S>, ticket: Ticket) -> Outcome {
-    assert!(rt;
+    check!(rt;
         ticket.from == node.number(),
         "a Declined comes to the giver"
     );
@@ -445,7 +446,7 @@ fn act_again<S: EntryStore>(
         return outcome;
     }
     let state = state_of(node);
-    assert!(rt; state == before, "what is refused memory changes nothing");
+    check!(rt; state == before, "what is refused memory changes nothing");
     act(rt, alloc, node, deed)
 }
 
@@ -454,9 +455,9 @@ pub fn follow<S: EntryStore>(rt: &impl Abort, alloc: Global, node: &mut Node<S>,
     for step in steps {
         let rule = step.rule;
         let outcome = act_again(rt, alloc, node, step.deed);
-        assert!(rt; outcome == step.outcome, "{rule}: {outcome:?}");
+        check!(rt; outcome == step.outcome, rule);
         let state = state_of(node);
-        assert!(rt; state == step.state, "{rule}: {state:?}");
+        check!(rt; state == step.state, rule);
     }
 }
 

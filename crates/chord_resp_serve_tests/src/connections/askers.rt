@@ -7,7 +7,7 @@ use chord_serve_testkit::{asked_of, note};
 use std::alloc::Global;
 
 /// What one question is answered in place of its reply.
-#[derive(Clone, Copy, Debug, PartialEq, Eq)]
+#[derive(Clone, Copy, PartialEq, Eq)]
 pub enum Trouble {
     Full,
     NoAnswer,

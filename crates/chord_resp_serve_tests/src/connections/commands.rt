@@ -1,5 +1,6 @@
 //! Commands, the questions that they ask, and their answers.
 use super::askers::{Script, Scripted, Trouble};
+use crate::checks::check;
 use chord_map::{Bytes, Request};
 use chord_resp::{Command, Commands};
 use chord_resp_serve::{About, Flow, Numbers, answer_command, answer_words};
@@ -93,7 +94,7 @@ fn commands_on_sets(rt: HostRuntime) {
     let want =
         b":2\r\n*2\r\n$1\r\na\r\n$1\r\nb\r\n:2\r\n:1\r\n*2\r\n:1\r\n:0\r\n+set\r\n+none\r\n:2\r\n:1\r\n*1\r\n$1\r\nb\r\n+b+a+b?????????-a-x?";
     let is_so = is_answered(rt.alloc(), input, NO_TROUBLE, want);
-    assert!(rt; is_so == Some(true), "each question once and in order");
+    check!(&rt; is_so == Some(true), "each question once and in order");
 }
 
 #[test]
@@ -103,11 +104,11 @@ fn commands_that_ask_nothing(rt: HostRuntime) {
     let want =
         b"+PONG\r\n$2\r\nhi\r\n+OK\r\n$-1\r\n:7\r\n*0\r\n:17\r\n*0\r\n$4\r\na:b\n\r\n-ERR unknown command 'get'\r\n+OK\r\n";
     let is_so = is_answered(rt.alloc(), input, NO_TROUBLE, want);
-    assert!(rt; is_so == Some(true), "nothing behind QUIT is answered");
+    check!(&rt; is_so == Some(true), "nothing behind QUIT is answered");
     let hello =
         b"*14\r\n$6\r\nserver\r\n$5\r\nchord\r\n$7\r\nversion\r\n$5\r\n7.0.0\r\n$5\r\nproto\r\n:2\r\n$2\r\nid\r\n:7\r\n$4\r\nmode\r\n$10\r\nstandalone\r\n$4\r\nrole\r\n$6\r\nmaster\r\n$7\r\nmodules\r\n*0\r\n";
     let is_so = is_answered(rt.alloc(), b"hello 2\n", NO_TROUBLE, hello);
-    assert!(rt; is_so == Some(true), "HELLO");
+    check!(&rt; is_so == Some(true), "HELLO");
 }
 
 #[test]
@@ -117,7 +118,7 @@ fn a_full_store_ends_a_command(rt: HostRuntime) {
     let want =
         b"-OOM the node's store is full, 1 of 3 done\r\n+PONG\r\n-TRYAGAIN an earlier request is not settled\r\n:2\r\n:2\r\n+a+b??!!";
     let is_so = is_answered(rt.alloc(), input, script, want);
-    assert!(rt;
+    check!(&rt;
         is_so == Some(true),
         "it is sent again before the next question"
     );
@@ -129,14 +130,14 @@ fn no_answer_ends_a_command(rt: HostRuntime) {
     let input = b"sadd k a\nscard k\n";
     let want = b"-TRYAGAIN no answer in time, it may have acted\r\n:1\r\n+a?!";
     let is_so = is_answered(rt.alloc(), input, script, want);
-    assert!(rt; is_so == Some(true), "it may have acted");
+    check!(&rt; is_so == Some(true), "it may have acted");
 }
 
 #[test]
 fn memory_ends_the_connection(rt: HostRuntime) {
     let script = Script::new(2, Trouble::Memory, 0);
     let is_so = is_answered(rt.alloc(), b"sadd k a b c\nping\n", script, b"#+a+b");
-    assert!(rt;
+    check!(&rt;
         is_so == Some(true),
         "nothing is answered, and nothing more is asked"
     );
@@ -166,13 +167,13 @@ fn told(alloc: Global, command: Command, want: &[u8]) -> Option<(bool, u64)> {
 fn one_command_is_answered(rt: HostRuntime) {
     let alloc = rt.alloc();
     let number = told(alloc, Command::Number, b":7\r\n");
-    assert!(rt;
+    check!(&rt;
         number == Some((true, 0)),
         "the connection's number, without a request"
     );
     let key = Bytes::from_slice(alloc, b"k").expect(&rt, "memory");
     let count = told(alloc, Command::Count { key }, b":0\r\n");
-    assert!(rt;
+    check!(&rt;
         count == Some((true, 1)),
         "the members of a key that has none"
     );

@@ -4,6 +4,7 @@
 
 use super::askers::Scripted;
 use super::sessions::{NO_TROUBLE, OneLine, begun};
+use crate::checks::check;
 use chord_resp::{Commands, ReadError, Words};
 use chord_resp_serve::{About, Numbers, ServerInfo, answer_words, serve_commands};
 use chord_serve::{ReadSize, Served};
@@ -97,7 +98,7 @@ fn roomy(alloc: Global) -> Result<Vec<u8>, AllocError> {
 }
 
 /// How a connection over all lines ended, and how many bytes of their answers it wrote.
-#[derive(Clone, Copy, Debug, PartialEq, Eq)]
+#[derive(Clone, Copy, PartialEq, Eq)]
 struct Seen {
     end: Served,
     written: Option<usize>,
@@ -166,7 +167,7 @@ fn a_connection_writes_whole_answers(rt: HostRuntime) {
         ) => written.is_some_and(are_whole),
         _ => false,
     };
-    assert!(rt; is_so, "up to the command that found no memory: {seen:?}");
+    check!(&rt; is_so, "up to the command that found no memory");
 }
 
 /// Feeds a line, again if memory was refused.

@@ -2,6 +2,7 @@
 ghost use Rattle.std.specs.Prelude.{◌≡◌, codes};
 
 use super::askers::{Script, Scripted, Trouble};
+use crate::checks::check;
 use chord_resp_serve::{Informs, ServerInfo, serve_commands};
 use chord_serve::{ReadSize, Served};
 use chord_serve_testkit::{FREE, Limited, Limits};
@@ -47,7 +48,7 @@ const AMPLE: Conditions = Conditions {
 };
 
 /// What a connection did.
-#[derive(Clone, Copy, Debug, PartialEq, Eq)]
+#[derive(Clone, Copy, PartialEq, Eq)]
 struct Seen {
     /// How it ended.
     end: Served,
@@ -125,7 +126,7 @@ fn commands_cut_anywhere_are_answered_as_far_as_they_are_whole(rt: HostRuntime) 
             asked,
             ..got
         };
-        assert!(rt; got == wanted, "{cut} bytes: {got:?}");
+        assert!(rt; got == wanted, "{cut} bytes");
     }
 }
 
@@ -144,7 +145,7 @@ fn the_answers_to_one_read_are_one_write(rt: HostRuntime) {
             writes,
             ..got
         };
-        assert!(rt; got == wanted, "reads of {step} bytes: {got:?}");
+        assert!(rt; got == wanted, "reads of {step} bytes");
     }
 }
 
@@ -170,7 +171,7 @@ fn a_reader_that_fails_ends_the_connection(rt: HostRuntime) {
             reads: calls,
             ..got
         };
-        assert!(rt; got == wanted, "{calls} reads: {got:?}");
+        assert!(rt; got == wanted, "{calls} reads");
     }
 }
 
@@ -200,7 +201,7 @@ fn a_writer_that_fails_ends_the_connection(rt: HostRuntime) {
             writes: calls,
             ..got
         };
-        assert!(rt; got == wanted, "{calls} writes: {got:?}");
+        assert!(rt; got == wanted, "{calls} writes");
     }
 }
 
@@ -227,7 +228,7 @@ fn reads_are_counted(rt: HostRuntime) {
             reads: turns,
             ..got
         };
-        assert!(rt; got == wanted, "{turns} reads: {got:?}");
+        assert!(rt; got == wanted, "{turns} reads");
     }
 }
 
@@ -258,7 +259,7 @@ fn bytes_that_are_no_command_end_the_connection(rt: HostRuntime) {
             asked: 0,
             ..got
         };
-        assert!(rt; got == wanted, "{input:?}: {got:?}");
+        assert!(rt; got == wanted, "{input:?}");
     }
 }
 
@@ -267,9 +268,9 @@ fn nothing_behind_quit_is_read(rt: HostRuntime) {
     let input = b"SADD k v\r\nQUIT\r\nSADD k w\r\n";
     let output = b":1\r\n+OK\r\n";
     let got = connected(rt.alloc(), (input, output), AMPLE, NO_TROUBLE);
-    assert!(rt; got.end == Served::Quit, "the client asked for the end");
-    assert!(rt; got.written == Some(9), "both are answered: {got:?}");
-    assert!(rt; got.asked == 1, "the third is not asked: {got:?}");
+    check!(&rt; got.end == Served::Quit, "the client asked for the end");
+    check!(&rt; got.written == Some(9), "both are answered");
+    check!(&rt; got.asked == 1, "the third is not asked");
 }
 
 #[test]
@@ -281,10 +282,10 @@ fn the_server_tells_its_text_and_the_connections_number(rt: HostRuntime) {
         AMPLE,
         NO_TROUBLE,
     );
-    assert!(rt; got.end == Served::Ended, "the input ended");
-    assert!(rt;
+    check!(&rt; got.end == Served::Ended, "the input ended");
+    check!(&rt;
         got.written == Some(output.len()),
-        "INFO and CLIENT ID: {got:?}"
+        "INFO and CLIENT ID"
     );
 }
 
@@ -292,7 +293,7 @@ fn the_server_tells_its_text_and_the_connections_number(rt: HostRuntime) {
 fn what_is_due_is_written_before_memory_ends_a_connection(rt: HostRuntime) {
     let script = Script::new(2, Trouble::Memory, 0);
     let got = connected(rt.alloc(), (COMMANDS, ANSWERS), AMPLE, script);
-    assert!(rt; got.end == Served::Memory, "memory ran out: {got:?}");
-    assert!(rt; got.written == Some(4), "the first answer is written");
-    assert!(rt; got.asked == 2, "nothing is asked behind the second");
+    check!(&rt; got.end == Served::Memory, "memory ran out");
+    check!(&rt; got.written == Some(4), "the first answer is written");
+    check!(&rt; got.asked == 2, "nothing is asked behind the second");
 }

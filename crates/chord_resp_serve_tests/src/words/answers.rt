@@ -1,4 +1,5 @@
 //! The bytes of answers.
+use crate::checks::check;
 use chord_map::{Bytes, Values};
 use chord_resp::{
     Progress, ProtocolError, Refusal, Verb, put_bulk, put_bulks, put_count, put_error, put_integer,
@@ -46,7 +47,7 @@ fn is_each(alloc: Global) -> Option<bool> {
 #[test]
 fn answers_as_bytes(rt: HostRuntime) {
     let is_so = is_each(rt.alloc());
-    assert!(rt; is_so == Some(true), "each answer as the protocol has it");
+    check!(&rt; is_so == Some(true), "each answer as the protocol has it");
 }
 
 /// Whether the refusal is told so.
@@ -68,27 +69,27 @@ const ONE: Progress = Progress { done: 0, of: 1 };
 #[test]
 fn errors_of_the_ring(rt: HostRuntime) {
     let full = b"-ERR set is full: it has 1000 members, 2 of 3 done\r\n";
-    assert!(rt;
+    check!(&rt;
         is_told(rt.alloc(), Refusal::SetFull(TWO_OF_THREE), full),
         "a full set"
     );
     let one = b"-ERR set is full: it has 1000 members\r\n";
-    assert!(rt;
+    check!(&rt;
         is_told(rt.alloc(), Refusal::SetFull(ONE), one),
         "and a single member"
     );
     let store = b"-OOM the node's store is full, 2 of 3 done\r\n";
-    assert!(rt;
+    check!(&rt;
         is_told(rt.alloc(), Refusal::StoreFull(TWO_OF_THREE), store),
         "a full store"
     );
     let late = b"-TRYAGAIN no answer in time, it may have acted\r\n";
-    assert!(rt;
+    check!(&rt;
         is_told(rt.alloc(), Refusal::NoAnswer(ONE), late),
         "no answer"
     );
     let pending = b"-TRYAGAIN an earlier request is not settled\r\n";
-    assert!(rt;
+    check!(&rt;
         is_told(rt.alloc(), Refusal::Unsettled, pending),
         "a request that is pending"
     );
@@ -98,25 +99,25 @@ fn errors_of_the_ring(rt: HostRuntime) {
 fn errors_of_the_protocol(rt: HostRuntime) {
     let count = b"-ERR Protocol error: invalid multibulk length\r\n";
     let refusal = Refusal::Protocol(ProtocolError::BadCount);
-    assert!(rt; is_told(rt.alloc(), refusal, count), "a count");
+    check!(&rt; is_told(rt.alloc(), refusal, count), "a count");
     let length = b"-ERR Protocol error: invalid bulk length\r\n";
     let refusal = Refusal::Protocol(ProtocolError::BadLength);
-    assert!(rt; is_told(rt.alloc(), refusal, length), "a length");
+    check!(&rt; is_told(rt.alloc(), refusal, length), "a length");
     let long = b"-ERR Protocol error: too big inline request\r\n";
     let refusal = Refusal::Protocol(ProtocolError::TooLong);
-    assert!(rt; is_told(rt.alloc(), refusal, long), "a line");
+    check!(&rt; is_told(rt.alloc(), refusal, long), "a line");
     let dollar = b"-ERR Protocol error: expected '$', got ':'\r\n";
     let refusal = Refusal::Protocol(ProtocolError::NoDollar(b':'));
-    assert!(rt; is_told(rt.alloc(), refusal, dollar), "a word");
+    check!(&rt; is_told(rt.alloc(), refusal, dollar), "a word");
     let hidden = b"-ERR Protocol error: expected '$', got '?'\r\n";
     let refusal = Refusal::Protocol(ProtocolError::NoDollar(b'\r'));
-    assert!(rt;
+    check!(&rt;
         is_told(rt.alloc(), refusal, hidden),
         "a byte that cannot be printed"
     );
     let number = b"-ERR wrong number of arguments for 'sadd' command\r\n";
     let refusal = Refusal::WrongNumber(Verb::Sadd);
-    assert!(rt;
+    check!(&rt;
         is_told(rt.alloc(), refusal, number),
         "the name in lower case"
     );

@@ -1,6 +1,7 @@
 //! Each growth is refused in turn: the call answers so, and nothing is changed.
 // With ample memory nothing is refused. A refused call is tried again, with memory for it.
 use super::shown::show_words;
+use crate::checks::check;
 use chord_map::Bytes;
 use chord_resp::{Commands, ReadError, Words, put_bulk, put_bulks};
 use std::alloc::Global;
@@ -57,13 +58,13 @@ fn is_read_again(alloc: Global, bytes: &[u8], shown: &[u8]) -> Option<bool> {
 fn a_refused_read_is_read_again(rt: HostRuntime) {
     let bytes = b"*2\r\n$20\r\naaaaaaaaaaaaaaaaaaaa\r\n$1\r\nb\r\n";
     let is_so = is_read_again(rt.alloc(), bytes, b"aaaaaaaaaaaaaaaaaaaa,b,;");
-    assert!(rt; is_so == Some(true), "a command of words");
+    check!(&rt; is_so == Some(true), "a command of words");
     let is_so = is_read_again(
         rt.alloc(),
         b"aaaaaaaaaaaaaaaaaaaa b\r\n",
         b"aaaaaaaaaaaaaaaaaaaa,b,;",
     );
-    assert!(rt; is_so == Some(true), "an inline command");
+    check!(&rt; is_so == Some(true), "an inline command");
 }
 
 /// Whether the answer is added whole or not at all, and at the second try whole.
@@ -91,5 +92,5 @@ fn is_whole(alloc: Global) -> Option<bool> {
 #[test]
 fn an_answer_is_added_whole_or_not_at_all(rt: HostRuntime) {
     let is_so = is_whole(rt.alloc());
-    assert!(rt; is_so == Some(true), "the output keeps what it had");
+    check!(&rt; is_so == Some(true), "the output keeps what it had");
 }

@@ -1,5 +1,6 @@
 //! Streams and the commands that they spell.
 use super::shown::{Stop, show_commands, show_pieces};
+use crate::checks::check;
 use chord_resp::{Commands, ProtocolError, Word, laws};
 use std::alloc::Global;
 use std::process::Abort;
@@ -237,14 +238,14 @@ fn length_of_word(alloc: Global, head: &[u8], length: usize) -> Option<(usize, S
 #[test]
 fn words_above_4096_bytes_are_kept_by_their_length(rt: HostRuntime) {
     let whole = length_of_word(rt.alloc(), b"*1\r\n$4096\r\n", 4096);
-    assert!(rt;
+    check!(&rt;
         whole == Some((4098, Stop::Between)),
         "4,096 bytes are kept"
     );
     let long = length_of_word(rt.alloc(), b"*1\r\n$4097\r\n", 4097);
-    assert!(rt; long == Some((8, Stop::Between)), "4,097 bytes are not");
+    check!(&rt; long == Some((8, Stop::Between)), "4,097 bytes are not");
     let inline = length_of_word(rt.alloc(), b"", 4097);
-    assert!(rt;
+    check!(&rt;
         inline == Some((8, Stop::Between)),
         "nor in an inline command"
     );
@@ -254,10 +255,10 @@ fn words_above_4096_bytes_are_kept_by_their_length(rt: HostRuntime) {
 fn an_inline_command_has_at_most_65536_bytes(rt: HostRuntime) {
     // The `\r` is one of them.
     let most = length_of_word(rt.alloc(), b"", 65_535);
-    assert!(rt; most == Some((8, Stop::Between)), "65,536 bytes are read");
+    check!(&rt; most == Some((8, Stop::Between)), "65,536 bytes are read");
     let over = length_of_word(rt.alloc(), b"", 65_536);
     let too_long = Stop::Protocol(ProtocolError::TooLong);
-    assert!(rt; over == Some((0, too_long)), "one more is refused");
+    check!(&rt; over == Some((0, too_long)), "one more is refused");
 }
 
 /// Why reading stopped at an inline command of `count` words.
@@ -277,9 +278,9 @@ fn stop_of_words(alloc: Global, count: usize) -> Option<Stop> {
 #[test]
 fn an_inline_command_has_at_most_1024_words(rt: HostRuntime) {
     let most = stop_of_words(rt.alloc(), 1024);
-    assert!(rt; most == Some(Stop::Between), "1,024 words are read");
+    check!(&rt; most == Some(Stop::Between), "1,024 words are read");
     let over = stop_of_words(rt.alloc(), 1025);
-    assert!(rt;
+    check!(&rt;
         over == Some(Stop::Protocol(ProtocolError::TooLong)),
         "one more is refused"
     );
@@ -289,7 +290,7 @@ fn an_inline_command_has_at_most_1024_words(rt: HostRuntime) {
 fn an_error_stays(rt: HostRuntime) {
     let mut commands = Commands::new(rt.alloc());
     let fed = commands.feed(b"*1\r\n:ping\r\n");
-    assert!(rt; fed.is_ok());
+    check!(&rt; fed.is_ok());
     let mut text = Vec::new(rt.alloc());
     let first = show_commands(&mut text, &mut commands);
     let left = commands.left();
@@ -298,10 +299,10 @@ fn an_error_stays(rt: HostRuntime) {
     drop(text);
     drop(commands);
     let error = Stop::Protocol(ProtocolError::NoDollar(b':'));
-    assert!(rt; first == error, "the word has no `$`");
-    assert!(rt; second == error, "the same call answers it again");
-    assert!(rt; left == 7, "nothing behind the error is read");
-    assert!(rt; is_empty, "no command is given");
+    check!(&rt; first == error, "the word has no `$`");
+    check!(&rt; second == error, "the same call answers it again");
+    check!(&rt; left == 7, "nothing behind the error is read");
+    check!(&rt; is_empty, "no command is given");
 }
 
 #[test]
@@ -332,5 +333,5 @@ fn takes_out(alloc: Global, bytes: &[u8]) -> Option<bool> {
 #[test]
 fn words_are_taken_out(rt: HostRuntime) {
     let are_these = takes_out(rt.alloc(), b"*2\r\n$3\r\nget\r\n$1\r\nk\r\n");
-    assert!(rt; are_these == Some(true), "the words as they were written");
+    check!(&rt; are_these == Some(true), "the words as they were written");
 }

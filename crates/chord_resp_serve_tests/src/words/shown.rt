@@ -19,7 +19,7 @@ pub fn show_words(text: &mut Vec<u8>, words: &Words) -> Result<(), AllocError> {
 }
 
 /// How reading went on, where no command is whole.
-#[derive(Clone, Copy, Debug, PartialEq, Eq)]
+#[derive(Clone, Copy, PartialEq, Eq)]
 pub enum Stop {
     /// No command has begun.
     Between,

@@ -1,4 +1,5 @@
 //! The table of commands.
+use crate::checks::check;
 use chord_map::{Bytes, Values};
 use chord_resp::{Command, Commands, Denied, Verb, Word, command_of, is_text, refusal_text};
 use std::alloc::{AllocError, Global};
@@ -326,26 +327,26 @@ const MEMBER: &[u8] = b"ERR member is longer than 4096 bytes";
 #[test]
 fn lengths_of_keys_and_members(rt: HostRuntime) {
     let empty = is_command(rt.alloc(), b"*2\r\n$5\r\nscard\r\n$0\r\n\r\n", KEY);
-    assert!(rt; empty, "a key has a byte");
+    check!(&rt; empty, "a key has a byte");
     let key = is_refused(rt.alloc(), b"scard ", 255, KEY);
-    assert!(rt; key == Some(false), "a key of 255 bytes is asked");
+    check!(&rt; key == Some(false), "a key of 255 bytes is asked");
     let long = is_refused(rt.alloc(), b"scard ", 256, KEY);
-    assert!(rt; long == Some(true), "one of 256 is not");
+    check!(&rt; long == Some(true), "one of 256 is not");
     let second = is_refused(rt.alloc(), b"exists a ", 256, KEY);
-    assert!(rt; second == Some(true), "nor as the second of several");
+    check!(&rt; second == Some(true), "nor as the second of several");
     let member = is_refused(rt.alloc(), b"sadd k ", 4096, MEMBER);
-    assert!(rt; member == Some(false), "a member of 4,096 bytes is asked");
+    check!(&rt; member == Some(false), "a member of 4,096 bytes is asked");
     let over = is_refused(rt.alloc(), b"sadd k a ", 4097, MEMBER);
-    assert!(rt; over == Some(true), "one of 4,097 is not");
+    check!(&rt; over == Some(true), "one of 4,097 is not");
     let word = is_refused(
         rt.alloc(),
         b"echo ",
         4097,
         b"ERR word is longer than 4096 bytes",
     );
-    assert!(rt; word == Some(true), "nor is such a word echoed");
+    check!(&rt; word == Some(true), "nor is such a word echoed");
     let name = is_refused(rt.alloc(), b"", 4097, b"ERR unknown command ''");
-    assert!(rt; name == Some(true), "such a name is not shown");
+    check!(&rt; name == Some(true), "such a name is not shown");
 }
 
 #[test]
@@ -355,17 +356,17 @@ fn verbs_of_words(rt: HostRuntime) {
         .map(Word::Whole);
     let verb = word.as_ref().and_then(Verb::of_word);
     drop(word);
-    assert!(rt; verb == Some(Verb::Smembers), "in both cases");
-    assert!(rt;
+    check!(&rt; verb == Some(Verb::Smembers), "in both cases");
+    check!(&rt;
         Verb::of_word(&Word::Long(4097)).is_none(),
         "a long word is no name"
     );
-    assert!(rt;
+    check!(&rt;
         Verb::Smembers.text() == b"smembers".as_slice(),
         "its name in lower case"
     );
-    assert!(rt; Verb::Smembers.takes(1), "a key follows");
-    assert!(rt; !Verb::Smembers.takes(2), "and nothing else");
+    check!(&rt; Verb::Smembers.takes(1), "a key follows");
+    check!(&rt; !Verb::Smembers.takes(2), "and nothing else");
 }
 
 /// Whether a word of these bytes is the text.
@@ -380,10 +381,10 @@ fn is_the_text(alloc: Global, bytes: &[u8], text: &[u8]) -> Option<bool> {
 fn words_that_are_texts(rt: HostRuntime) {
     let alloc = rt.alloc();
     let both_cases = is_the_text(alloc, b"iNFo", b"info");
-    assert!(rt; both_cases == Some(true), "in both cases");
+    check!(&rt; both_cases == Some(true), "in both cases");
     let other = is_the_text(alloc, b"ping", b"info");
-    assert!(rt; other == Some(false), "another text");
+    check!(&rt; other == Some(false), "another text");
     let part = is_the_text(alloc, b"inf", b"info");
-    assert!(rt; part == Some(false), "a part of it");
-    assert!(rt; !is_text(&Word::Long(4097), b"info"), "a long word");
+    check!(&rt; part == Some(false), "a part of it");
+    check!(&rt; !is_text(&Word::Long(4097), b"info"), "a long word");
 }

@@ -3,6 +3,7 @@
 use super::in_flight::send;
 use super::script::{CLOSE, CLOSED, OPEN, TOKEN, change, opened};
 use super::sessions::{ADDED, fault, insert, joined};
+use crate::checks::check;
 use chord_serve::{BeginFault, CallFault, CloseFault, OpenFault, ResumeFault, WireClient};
 use chord_serve_testkit::{Cut, Limited, Limits};
 use chord_wire::{FaultCode, Token};
@@ -114,8 +115,8 @@ fn bytes_behind_an_opened_are_refused(rt: HostRuntime) {
     let told = (begun(alloc, &answer), resumed(alloc, &answer));
     drop(answer);
     let unasked = OpenFault::Unasked;
-    assert!(rt; told.0 == Some(Err(BeginFault::Open(unasked))), "begins");
-    assert!(rt; told.1 == Some(Err(ResumeFault::Open(unasked))), "resumes");
+    check!(&rt; told.0 == Some(Err(BeginFault::Open(unasked))), "begins");
+    check!(&rt; told.1 == Some(Err(ResumeFault::Open(unasked))), "resumes");
 }
 
 /// What a client is told that opens over a reader that gives one byte a call and then fails.
@@ -201,10 +202,10 @@ fn resumed_in_version_1(alloc: Global) -> Option<(Result<(), ResumeFault>, usize
 fn clients_that_have_no_session(rt: HostRuntime) {
     let alloc = rt.alloc();
     let old = (Err(BeginFault::Version), Err(CloseFault::Version), true);
-    assert!(rt; refused(alloc, 1) == Some(old));
+    check!(&rt; refused(alloc, 1) == Some(old));
     let used = (Err(BeginFault::Used), Err(CloseFault::InFlight), true);
-    assert!(rt; refused(alloc, 2) == Some(used));
-    assert!(rt; resumed_in_version_1(alloc) == Some((Err(ResumeFault::Version), 0)));
+    check!(&rt; refused(alloc, 2) == Some(used));
+    check!(&rt; resumed_in_version_1(alloc) == Some((Err(ResumeFault::Version), 0)));
 }
 
 /// Whether `written` is the first `most` bytes of an open and of an insert that is written again.
@@ -311,5 +312,5 @@ fn closed_behind_more(alloc: Global) -> Option<Result<(), CloseFault>> {
 #[test]
 fn bytes_that_no_request_asked_for_are_told_at_the_close(rt: HostRuntime) {
     let told = closed_behind_more(rt.alloc());
-    assert!(rt; told == Some(Err(CloseFault::Unasked)), "one byte more");
+    check!(&rt; told == Some(Err(CloseFault::Unasked)), "one byte more");
 }

@@ -1,5 +1,6 @@
 //! The texts of faults.
 
+use crate::checks::check;
 use chord_serve::{AgainFault, CallFault, ReceiveFault, SendFault};
 use std::alloc::Global;
 use std::fmt::Display;
@@ -22,5 +23,5 @@ fn faults_have_texts(rt: HostRuntime) {
     let full = reads(alloc, SendFault::WindowFull, text);
     let text = "no request of this number got a fault and was not sent again since";
     let not_refused = reads(alloc, AgainFault::NotRefused, text);
-    assert!(rt; [ended, idle, full, not_refused] == [Some(true); 4]);
+    check!(&rt; [ended, idle, full, not_refused] == [Some(true); 4]);
 }

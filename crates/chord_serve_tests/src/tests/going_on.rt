@@ -3,6 +3,7 @@
 
 use super::in_flight::send;
 use super::script::{Line, TOKEN, answers, kept, new_session, visit};
+use crate::checks::check;
 use chord_map::{Reply, Request};
 use chord_serve::{ClientSession, WireClient, tell_opened};
 use chord_serve_testkit::{Cut, MapAsker};
@@ -242,12 +243,12 @@ fn arrives(alloc: Global, window: u64, cut: usize, side: Side, bytes: usize) -> 
 /// with requests that are written again.
 #[test]
 fn a_client_cut_while_it_writes_resumes(rt: HostRuntime) {
-    assert!(rt; arrives(rt.alloc(), 16, 0, Side::In, 348), "the first");
-    assert!(rt; arrives(rt.alloc(), 4, 1, Side::In, 147), "the second");
+    check!(&rt; arrives(rt.alloc(), 16, 0, Side::In, 348), "the first");
+    check!(&rt; arrives(rt.alloc(), 4, 1, Side::In, 147), "the second");
 }
 
 #[test]
 fn a_client_cut_while_it_is_answered_resumes(rt: HostRuntime) {
-    assert!(rt; arrives(rt.alloc(), 16, 0, Side::Out, 237), "the first");
-    assert!(rt; arrives(rt.alloc(), 4, 1, Side::Out, 100), "the second");
+    check!(&rt; arrives(rt.alloc(), 16, 0, Side::Out, 237), "the first");
+    check!(&rt; arrives(rt.alloc(), 4, 1, Side::Out, 100), "the second");
 }

@@ -2,6 +2,7 @@
 
 use super::script::{CLOSE, OPEN, change};
 use super::sessions::{ADDED, INSERT, fault, joined};
+use crate::checks::check;
 use chord_serve::{
     ClientSession, ReadSize, Served, greet, serve_plain, tell_no_session, tell_session_known,
 };
@@ -51,14 +52,14 @@ fn an_open_is_taken_and_what_is_behind_it_stays(rt: HostRuntime) {
     let (at_once, in_steps) = (begun(alloc, &input, 100, 10), begun(alloc, &input, 13, 10));
     drop(input);
     let resumed = begun(alloc, &OPEN, 100, 10);
-    assert!(rt; is_open(at_once.opening, false), "it begins a session");
-    assert!(rt; at_once.left == 27, "the request is left");
-    assert!(rt; is_open(in_steps.opening, false), "in steps too");
-    assert!(rt;
+    check!(&rt; is_open(at_once.opening, false), "it begins a session");
+    check!(&rt; at_once.left == 27, "the request is left");
+    check!(&rt; is_open(in_steps.opening, false), "in steps too");
+    check!(&rt;
         (in_steps.left, in_steps.reads) == (0, 3),
         "nothing is read behind the open"
     );
-    assert!(rt; is_open(resumed.opening, true), "it resumes one");
+    check!(&rt; is_open(resumed.opening, true), "it resumes one");
 }
 
 /// Beginnings that are no open: the input, the most bytes of a read, and how much was read when
@@ -98,7 +99,7 @@ fn another_beginning_is_left_as_it_is(rt: HostRuntime) {
 fn a_beginning_that_does_not_come(rt: HostRuntime) {
     let alloc = rt.alloc();
     let seen = begun(alloc, &OPEN, 1, 5);
-    assert!(rt;
+    check!(&rt;
         (seen.opening, seen.reads) == (Err(Served::TurnsSpent), 5),
         "five reads are not enough"
     );
@@ -106,7 +107,7 @@ fn a_beginning_that_does_not_come(rt: HostRuntime) {
     let mut frames = SessionFrames::new(alloc);
     let opening = greet(&mut reader, &mut frames, 10);
     drop(frames);
-    assert!(rt; opening == Err(Served::Read), "the reader fails");
+    check!(&rt; opening == Err(Served::Read), "the reader fails");
 }
 
 /// How a connection that began without an open ended, whether it wrote exactly these frames, and
@@ -143,7 +144,7 @@ fn a_connection_without_an_open_is_served_as_ever(rt: HostRuntime) {
     let input = joined(alloc, &[&INSERT, &INSERT]).expect(&rt, "memory for two frames");
     let seen = plain(alloc, &input, &[&ADDED, &ADDED]);
     drop(input);
-    assert!(rt;
+    check!(&rt;
         seen == Some((Served::Ended, true, 1)),
         "the same number is asked once and answered twice"
     );
@@ -154,7 +155,7 @@ fn a_close_without_a_session_is_refused(rt: HostRuntime) {
     let alloc = rt.alloc();
     let code = chord_wire::FaultCode::OutOfPlace;
     let seen = plain(alloc, &CLOSE, &[&fault(0, 16)]);
-    assert!(rt;
+    check!(&rt;
         seen == Some((Served::Malformed(code), true, 0)),
         "a close is out of place"
     );
@@ -162,7 +163,7 @@ fn a_close_without_a_session_is_refused(rt: HostRuntime) {
     let input = joined(alloc, &[&second, &OPEN]).expect(&rt, "memory for two frames");
     let late = plain(alloc, &input, &[&ADDED, &fault(0, 16)]);
     drop(input);
-    assert!(rt;
+    check!(&rt;
         late == Some((Served::Malformed(code), true, 1)),
         "so is an open behind a request"
     );
@@ -187,8 +188,8 @@ fn is_told_none(alloc: Global) -> bool {
 #[test]
 fn a_client_is_told_why_no_session_begins(rt: HostRuntime) {
     let alloc = rt.alloc();
-    assert!(rt; is_told_known(alloc), "the session is known already");
-    assert!(rt; is_told_none(alloc), "no such session is kept");
+    check!(&rt; is_told_known(alloc), "the session is known already");
+    check!(&rt; is_told_none(alloc), "no such session is kept");
 }
 
 #[test]
@@ -199,5 +200,5 @@ fn a_session_of_a_connection_has_no_version_yet(rt: HostRuntime) {
     let asker = client.into_asker();
     let asked = asker.requests.len();
     drop(asker);
-    assert!(rt; (numbers, asked) == ((0, 0), 0), "nothing was asked");
+    check!(&rt; (numbers, asked) == ((0, 0), 0), "nothing was asked");
 }

@@ -4,6 +4,7 @@
 
 use super::in_flight::send;
 use super::sessions::{ADDED, Frames, INSERT, INSERT_2, begun, calls, insert, is_added, three};
+use crate::checks::check;
 use chord_map::Request;
 use chord_serve::{CallFault, ReadSize, SendFault, Served, WireClient, serve};
 use chord_serve_testkit::MapAsker;
@@ -49,7 +50,7 @@ fn session(alloc: Global) -> Option<(Served, Option<usize>)> {
 #[test]
 fn a_session_writes_whole_frames(rt: HostRuntime) {
     let told = session(rt.alloc());
-    assert!(rt;
+    check!(&rt;
         matches!(
             told,
             Some((Served::Ended, Some(51)) | (Served::Memory, Some(0 | 15 | 36)))
@@ -105,7 +106,7 @@ fn is_answered(alloc: Global, version: u8, frame: &[u8]) -> Option<bool> {
 fn a_call_made_again_is_answered(rt: HostRuntime) {
     let first = is_answered(rt.alloc(), 1, &INSERT);
     let second = is_answered(rt.alloc(), 2, &INSERT_2);
-    assert!(rt; (first, second) == (Some(true), Some(true)));
+    check!(&rt; (first, second) == (Some(true), Some(true)));
 }
 
 /// Sends a request; Memory if there is no memory to make it.
@@ -132,5 +133,5 @@ fn sent_again(alloc: Global) -> Option<(Result<u64, SendFault>, bool)> {
 /// If memory is refused to a send it writes nothing, and a second try sends under the same number.
 #[test]
 fn a_send_made_again_has_the_same_number(rt: HostRuntime) {
-    assert!(rt; sent_again(rt.alloc()) == Some((Ok(1), true)));
+    check!(&rt; sent_again(rt.alloc()) == Some((Ok(1), true)));
 }

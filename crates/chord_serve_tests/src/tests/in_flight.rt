@@ -3,6 +3,7 @@
 
 use super::askers::{AtFirst, LateAsker};
 use super::sessions::{ADDED, INSERT_2, fault, insert};
+use crate::checks::check;
 use chord_map::{Reply, Request};
 use chord_serve::{
     AgainFault, Asker, CallFault, ReadSize, ReceiveFault, SendFault, Served, WireClient, serve,
@@ -319,7 +320,7 @@ const SIXTEEN: Script = &[
 
 #[test]
 fn sixteen_in_flight(rt: HostRuntime) {
-    assert!(rt; other_line(rt.alloc(), 2, 16, SIXTEEN) == None);
+    check!(&rt; other_line(rt.alloc(), 2, 16, SIXTEEN) == None);
 }
 
 const SEVENTEEN: Script = &[
@@ -330,7 +331,7 @@ const SEVENTEEN: Script = &[
 
 #[test]
 fn a_full_window_sends_nothing(rt: HostRuntime) {
-    assert!(rt; other_line(rt.alloc(), 2, 16, SEVENTEEN) == None);
+    check!(&rt; other_line(rt.alloc(), 2, 16, SEVENTEEN) == None);
 }
 
 const SIXTEEN_ANSWERED: Script = &[
@@ -344,7 +345,7 @@ const SIXTEEN_ANSWERED: Script = &[
 /// Sixteen requests are sent before an answer is read, and the next one has the floor 16.
 #[test]
 fn sixteen_answers_raise_the_floor(rt: HostRuntime) {
-    assert!(rt; other_line(rt.alloc(), 2, 16, SIXTEEN_ANSWERED) == None);
+    check!(&rt; other_line(rt.alloc(), 2, 16, SIXTEEN_ANSWERED) == None);
 }
 
 const REFUSED_TWICE: Script = &[
@@ -357,7 +358,7 @@ const REFUSED_TWICE: Script = &[
 
 #[test]
 fn a_full_store_keeps_the_window(rt: HostRuntime) {
-    assert!(rt; other_line(rt.alloc(), 2, 2, REFUSED_TWICE) == None);
+    check!(&rt; other_line(rt.alloc(), 2, 2, REFUSED_TWICE) == None);
 }
 
 const NOT_REFUSED: Script = &[
@@ -378,8 +379,8 @@ const REFUSED_ONCE: Script = &[
 
 #[test]
 fn only_what_was_refused_is_sent_again(rt: HostRuntime) {
-    assert!(rt; other_line(rt.alloc(), 2, 2, NOT_REFUSED) == None);
-    assert!(rt; other_line(rt.alloc(), 2, 2, REFUSED_ONCE) == None);
+    check!(&rt; other_line(rt.alloc(), 2, 2, NOT_REFUSED) == None);
+    check!(&rt; other_line(rt.alloc(), 2, 2, REFUSED_ONCE) == None);
 }
 
 const SENT_AGAIN: Script = &[
@@ -399,7 +400,7 @@ const SENT_AGAIN: Script = &[
 /// Requests that a full store refused are sent again unchanged, in any order.
 #[test]
 fn a_full_store_is_asked_again(rt: HostRuntime) {
-    assert!(rt; other_line(rt.alloc(), 2, 2, SENT_AGAIN) == None);
+    check!(&rt; other_line(rt.alloc(), 2, 2, SENT_AGAIN) == None);
 }
 
 const ANSWERED_AGAIN: Script = &[
@@ -420,7 +421,7 @@ const ANSWERED_AGAIN: Script = &[
 /// Requests sent again are answered, and the floor waits for the least number.
 #[test]
 fn what_is_sent_again_is_answered(rt: HostRuntime) {
-    assert!(rt; other_line(rt.alloc(), 2, 2, ANSWERED_AGAIN) == None);
+    check!(&rt; other_line(rt.alloc(), 2, 2, ANSWERED_AGAIN) == None);
 }
 
 const ONE: Script = &[
@@ -431,7 +432,7 @@ const ONE: Script = &[
 
 #[test]
 fn one_at_a_time(rt: HostRuntime) {
-    assert!(rt; other_line(rt.alloc(), 1, 1, ONE) == None);
+    check!(&rt; other_line(rt.alloc(), 1, 1, ONE) == None);
 }
 
 const HELD_BACK: Script = &[
@@ -447,7 +448,7 @@ const HELD_BACK: Script = &[
 /// In version 1 a request that got no reply holds back the next one.
 #[test]
 fn an_unanswered_request_holds_back_the_next(rt: HostRuntime) {
-    assert!(rt; other_line(rt.alloc(), 1, 1, HELD_BACK) == None);
+    check!(&rt; other_line(rt.alloc(), 1, 1, HELD_BACK) == None);
 }
 
 const ANSWERED_THEN: Script = &[
@@ -462,7 +463,7 @@ const ANSWERED_THEN: Script = &[
 
 #[test]
 fn an_unanswered_request_is_answered_then(rt: HostRuntime) {
-    assert!(rt; other_line(rt.alloc(), 1, 1, ANSWERED_THEN) == None);
+    check!(&rt; other_line(rt.alloc(), 1, 1, ANSWERED_THEN) == None);
 }
 
 /// Each way in which no answer comes; the request still waits for its answer.
@@ -487,7 +488,7 @@ fn answers_that_are_none(rt: HostRuntime) {
             Line::Receives(Told::Nothing(fault)),
             Line::Stands(1, 0, false),
         ];
-        assert!(rt; other_line(rt.alloc(), 2, 16, &script) == None);
+        check!(&rt; other_line(rt.alloc(), 2, 16, &script) == None);
     }
 }
 
@@ -503,10 +504,10 @@ fn no_caller_told(alloc: Global, room: usize) -> (bool, [u8; 15]) {
 /// The fault of a connection that finds no caller is one frame: fault 15 of request 0.
 #[test]
 fn a_connection_without_a_caller_is_told(rt: HostRuntime) {
-    assert!(rt; no_caller_told(rt.alloc(), 15) == (true, fault(0, 15)));
+    check!(&rt; no_caller_told(rt.alloc(), 15) == (true, fault(0, 15)));
     let (is_told, bytes) = no_caller_told(rt.alloc(), 6);
-    assert!(rt; !is_told, "the writer has room for 6 bytes");
-    assert!(rt;
+    check!(&rt; !is_told, "the writer has room for 6 bytes");
+    check!(&rt;
         bytes[..6] == fault(0, 15)[..6],
         "they are the first of the frame"
     );
@@ -531,7 +532,7 @@ fn slow_and_failing_readers(rt: HostRuntime) {
         (14, 20, Some(ReceiveFault::Call(CallFault::Read))),
         (20, 15, None),
     ] {
-        assert!(rt; read_slowly(rt.alloc(), calls, turns) == Some(wanted));
+        check!(&rt; read_slowly(rt.alloc(), calls, turns) == Some(wanted));
     }
 }
 
@@ -578,23 +579,23 @@ fn sent_in_part(alloc: Global) -> Option<InPart> {
 #[test]
 fn a_writer_that_fails(rt: HostRuntime) {
     let seen = sent_in_part(rt.alloc()).expect(&rt, "memory for an insert");
-    assert!(rt; seen.sent == Err(SendFault::Write), "the writer fails");
-    assert!(rt; seen.begins, "7 bytes are written");
-    assert!(rt; seen.awaited == 1, "an answer may come");
+    check!(&rt; seen.sent == Err(SendFault::Write), "the writer fails");
+    check!(&rt; seen.begins, "7 bytes are written");
+    check!(&rt; seen.awaited == 1, "an answer may come");
 }
 
 #[test]
 fn a_writer_that_fails_again(rt: HostRuntime) {
     let seen = sent_in_part(rt.alloc()).expect(&rt, "memory for an insert");
-    assert!(rt;
+    check!(&rt;
         seen.refused == Told::Fault(1, FaultCode::Full),
         "its answer came"
     );
-    assert!(rt;
+    check!(&rt;
         seen.again == Err(AgainFault::Write),
         "the writer fails again"
     );
-    assert!(rt; seen.awaited_again == 1, "another answer may come");
+    check!(&rt; seen.awaited_again == 1, "another answer may come");
 }
 
 /// The last one is refused.
@@ -610,9 +611,9 @@ const LAST_NUMBERS: Script = &[
 
 #[test]
 fn a_client_tells_the_number_of_its_last_request(rt: HostRuntime) {
-    assert!(rt; other_line(rt.alloc(), 2, 2, LAST_NUMBERS) == None);
+    check!(&rt; other_line(rt.alloc(), 2, 2, LAST_NUMBERS) == None);
     let in_part = sent_in_part(rt.alloc()).expect(&rt, "memory for an insert");
-    assert!(rt; in_part.last == 1, "a part of it was written");
+    check!(&rt; in_part.last == 1, "a part of it was written");
 }
 
 const IN_ORDER: Script = &[
@@ -628,5 +629,5 @@ const IN_ORDER: Script = &[
 /// Replies are those of a plain map, in the order of the requests.
 #[test]
 fn replies_in_order(rt: HostRuntime) {
-    assert!(rt; other_line(rt.alloc(), 2, 3, IN_ORDER) == None);
+    check!(&rt; other_line(rt.alloc(), 2, 3, IN_ORDER) == None);
 }

@@ -1,5 +1,6 @@
 //! Sessions without a connection: found by their whole tokens, and dropped oldest first.
 
+use crate::checks::check;
 use chord_serve::{ClientSession, KeptSessions, MayBePending};
 use chord_wire::Token;
 use std::alloc::Global;
@@ -74,18 +75,18 @@ fn a_session_is_found_by_its_whole_token(rt: HostRuntime) {
     let first = number_of(kept.take(token(1)));
     let left = kept.len();
     drop(kept);
-    assert!(rt;
+    check!(&rt;
         knows == (true, false, false),
         "it knows 2, not 5, and no token of which one byte differs"
     );
-    assert!(rt; none == None, "one byte differs");
-    assert!(rt; second == Some(2), "it is taken by its token");
-    assert!(rt; again == None, "it is taken once");
-    assert!(rt;
+    check!(&rt; none == None, "one byte differs");
+    check!(&rt; second == Some(2), "it is taken by its token");
+    check!(&rt; again == None, "it is taken once");
+    check!(&rt;
         first == Some(1),
         "a pending request does not keep a client away"
     );
-    assert!(rt; left == 2, "two of four were taken");
+    check!(&rt; left == 2, "two of four were taken");
 }
 
 #[test]
@@ -99,18 +100,18 @@ fn the_oldest_session_is_taken_first_and_no_pending_one(rt: HostRuntime) {
     let pending = number_of(kept.take_oldest(u64::MAX));
     let left = kept.len();
     drop(kept);
-    assert!(rt;
+    check!(&rt;
         early == None,
         "the first is pending, the others are younger"
     );
-    assert!(rt;
+    check!(&rt;
         (second, third) == (Some(2), Some(3)),
         "the oldest of those that are not pending comes first"
     );
-    assert!(rt; young == None, "the fourth is younger");
-    assert!(rt; fourth == Some(4), "then it is old enough");
-    assert!(rt; pending == None, "the first stays");
-    assert!(rt; left == 1, "three of four were taken");
+    check!(&rt; young == None, "the fourth is younger");
+    check!(&rt; fourth == Some(4), "then it is old enough");
+    check!(&rt; pending == None, "the first stays");
+    check!(&rt; left == 1, "three of four were taken");
 }
 
 #[test]
@@ -122,8 +123,8 @@ fn the_first_session_is_taken_though_it_is_pending(rt: HostRuntime) {
     }
     let none = number_of(kept.take_first());
     drop(kept);
-    assert!(rt; are_in_order, "the first is taken first, though pending");
-    assert!(rt; none == None, "no session is left");
+    check!(&rt; are_in_order, "the first is taken first, though pending");
+    check!(&rt; none == None, "no session is left");
 }
 
 /// The sessions 1 to 200, of which each tenth has a pending request.
@@ -152,8 +153,8 @@ fn two_hundred_sessions_are_dropped_in_order(rt: HostRuntime) {
     let none = number_of(kept.take_oldest(200));
     let (left, gone) = (kept.len(), kept.knows(token(11)));
     drop(kept);
-    assert!(rt; are_in_order, "the oldest first, and no pending one");
-    assert!(rt; none == None, "those that are left are pending");
-    assert!(rt; left == 20, "each tenth is left");
-    assert!(rt; !gone, "a dropped session is not known");
+    check!(&rt; are_in_order, "the oldest first, and no pending one");
+    check!(&rt; none == None, "those that are left are pending");
+    check!(&rt; left == 20, "each tenth is left");
+    check!(&rt; !gone, "a dropped session is not known");
 }

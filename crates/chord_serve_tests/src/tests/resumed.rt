@@ -6,13 +6,14 @@ use super::script::{
     one_value, opened, requests, retrieve, status, visit, whole,
 };
 use super::sessions::{Frames, INSERT, fault, joined};
+use crate::checks::check;
 use chord_serve::{ClientSession, KeptSessions, Parted, Served, SessionTable, laws};
 use chord_serve_testkit::MapAsker;
 use chord_wire::Token;
 use std::alloc::{AllocError, Global};
 
 /// What a session of two connections did.
-#[derive(Clone, Copy, Debug, PartialEq, Eq)]
+#[derive(Clone, Copy, PartialEq, Eq)]
 struct OverTwo {
     /// How the first connection ended.
     first: Served,
@@ -125,7 +126,7 @@ fn a_connection_cut_on_the_way_in_is_resumed(rt: HostRuntime) {
             is_opened: true,
             asked: 12,
         };
-        assert!(rt; told == Some(wanted), "{most_in} bytes in: {told:?}");
+        assert!(rt; told == Some(wanted), "{most_in} bytes in");
     }
 }
 
@@ -139,7 +140,7 @@ fn a_connection_cut_on_the_way_out_is_resumed(rt: HostRuntime) {
             is_opened: true,
             asked: 12,
         };
-        assert!(rt; told == Some(wanted), "{most_out} bytes out: {told:?}");
+        assert!(rt; told == Some(wanted), "{most_out} bytes out");
     }
 }
 
@@ -157,7 +158,7 @@ fn after(alloc: Global, frames: &[&[u8]]) -> Option<ClientSession<MapAsker>> {
 
 /// How a connection of a session ended, whether it wrote exactly these frames, how many requests
 /// its asker was asked, and whether the session can go on.
-#[derive(Clone, Copy, Debug, PartialEq, Eq)]
+#[derive(Clone, Copy, PartialEq, Eq)]
 struct Outcome {
     end: Served,
     is_wanted: bool,
@@ -237,7 +238,7 @@ fn kept_answers_are_given_again(rt: HostRuntime) {
         asked: 3,
         is_kept: true,
     };
-    assert!(rt;
+    check!(&rt;
         seen == Some(wanted),
         "answers come again, and the next number is asked"
     );
@@ -269,7 +270,7 @@ fn a_number_at_the_floor_is_refused_over_a_new_connection(rt: HostRuntime) {
         asked: 4,
         is_kept: true,
     };
-    assert!(rt;
+    check!(&rt;
         seen == Some(wanted),
         "1 and 2 are at the floor or below it"
     );
@@ -291,7 +292,7 @@ fn another_request_under_a_known_number_is_refused_over_a_new_connection(rt: Hos
         asked: 1,
         is_kept: true,
     };
-    assert!(rt; seen == Some(wanted), "the number was another request's");
+    check!(&rt; seen == Some(wanted), "the number was another request's");
 }
 
 #[test]
@@ -314,7 +315,7 @@ fn a_closed_session_is_over(rt: HostRuntime) {
         asked: 1,
         is_kept: false,
     };
-    assert!(rt;
+    check!(&rt;
         seen == Some(wanted),
         "what is behind the close is not read"
     );
@@ -345,7 +346,7 @@ fn a_refused_frame_leaves_the_session(rt: HostRuntime) {
         let is_left = seen.is_some_and(|seen| {
             matches!(seen.end, Served::Malformed(_)) & seen.is_wanted & seen.is_kept
         });
-        assert!(rt; is_left, "fault {code}: {seen:?}");
+        assert!(rt; is_left, "fault {code}");
     }
 }
 
@@ -363,8 +364,8 @@ fn a_close_that_cannot_be_told_ends_the_session(rt: HostRuntime) {
     drop(told.written);
     let is_kept = matches!(&told.left, Parted::Kept(_));
     drop(told.left);
-    assert!(rt; told.end == Served::Write, "the writer fails");
-    assert!(rt; !is_kept, "the close was read");
+    check!(&rt; told.end == Served::Write, "the writer fails");
+    check!(&rt; !is_kept, "the close was read");
 }
 
 #[test]
@@ -378,8 +379,8 @@ fn a_session_whose_asker_runs_out_of_memory_is_over(rt: HostRuntime) {
     drop(told.written);
     let is_kept = matches!(&told.left, Parted::Kept(_));
     drop(told.left);
-    assert!(rt; told.end == Served::Memory, "the asker has none left");
-    assert!(rt; !is_kept, "nobody knows whether the request acted");
+    check!(&rt; told.end == Served::Memory, "the asker has none left");
+    check!(&rt; !is_kept, "nobody knows whether the request acted");
 }
 
 #[test]
@@ -394,8 +395,8 @@ fn a_session_tells_its_floor_and_its_last_number(rt: HostRuntime) {
     let asker = client.into_asker();
     let asked = asker.requests.len();
     drop(asker);
-    assert!(rt; numbers == (1, 2), "floor 1, and 2 is the last number");
-    assert!(rt; asked == 2, "each is asked once");
+    check!(&rt; numbers == (1, 2), "floor 1, and 2 is the last number");
+    check!(&rt; asked == 2, "each is asked once");
 }
 
 #[test]
@@ -461,7 +462,7 @@ fn answers_of_sessions_without_a_connection_are_counted(rt: HostRuntime) {
         of_two: 72,
         of_one: 36,
     };
-    assert!(rt; seen == Some(wanted), "15 bytes and 21 each");
+    check!(&rt; seen == Some(wanted), "15 bytes and 21 each");
 }
 
 /// An answer is kept until a floor passes its request.
@@ -471,7 +472,7 @@ fn kept_answers_are_counted(rt: HostRuntime) {
     let second = retrieve(2, 0, b'a');
     let third = retrieve(3, 1, b'a');
     let two = bytes_kept(rt.alloc(), &[&insert, &second]);
-    assert!(rt; two == Some((36, 72)), "15 bytes and 21");
+    check!(&rt; two == Some((36, 72)), "15 bytes and 21");
     let three = bytes_kept(rt.alloc(), &[&insert, &second, &third]);
-    assert!(rt; three == Some((42, 84)), "21 bytes and 21");
+    check!(&rt; three == Some((42, 84)), "21 bytes and 21");
 }

@@ -1,6 +1,7 @@
 //! The sessions of a server: each token names one, and one connection at most has it.
 ghost use Rattle.std.specs.Prelude.{false};
 
+use crate::checks::check;
 use chord_serve::{BeginRefusal, ClientSession, MayBePending, Resumed, SessionTable};
 use chord_wire::Token;
 use std::alloc::Global;
@@ -78,15 +79,15 @@ fn a_token_begins_one_session(rt: HostRuntime) {
     let again = table.begin(token(1), 40);
     let has_it = table.connection_of(token(1));
     drop(table);
-    assert!(rt; held == Err(BeginRefusal::Known), "a connection has it");
-    assert!(rt; kept == Err(BeginRefusal::Known), "it is kept");
-    assert!(rt;
+    check!(&rt; held == Err(BeginRefusal::Known), "a connection has it");
+    check!(&rt; kept == Err(BeginRefusal::Known), "it is kept");
+    check!(&rt;
         connections == (Some(10), None, None),
         "the first has a connection, the second lost it, there is no third"
     );
-    assert!(rt; count == 1, "the second is kept");
-    assert!(rt; ended == None, "the first ended");
-    assert!(rt;
+    check!(&rt; count == 1, "the second is kept");
+    check!(&rt; ended == None, "the first ended");
+    check!(&rt;
         (again, has_it) == (Ok(()), Some(40)),
         "its token begins another"
     );
@@ -105,13 +106,13 @@ fn a_session_is_resumed_over_one_connection(rt: HostRuntime) {
     let again = resume(&mut table, 2, 40);
     let counted = table.kept_count();
     drop(table);
-    assert!(rt; elsewhere == Found::Elsewhere(10), "connection 10 has it");
-    assert!(rt; here == Found::Here(2), "no connection had it");
-    assert!(rt; newer == Found::Elsewhere(30), "an older connection has it");
-    assert!(rt; unknown == Found::Unknown, "there is no third");
-    assert!(rt; is_parted && left == None, "connection 30 was lost");
-    assert!(rt; again == Found::Here(2), "so it goes on over another");
-    assert!(rt; counted == 0, "none is kept without a connection");
+    check!(&rt; elsewhere == Found::Elsewhere(10), "connection 10 has it");
+    check!(&rt; here == Found::Here(2), "no connection had it");
+    check!(&rt; newer == Found::Elsewhere(30), "an older connection has it");
+    check!(&rt; unknown == Found::Unknown, "there is no third");
+    check!(&rt; is_parted && left == None, "connection 30 was lost");
+    check!(&rt; again == Found::Here(2), "so it goes on over another");
+    check!(&rt; counted == 0, "none is kept without a connection");
 }
 
 #[test]
@@ -126,12 +127,12 @@ fn the_oldest_kept_session_is_dropped(rt: HostRuntime) {
     let next = table.drop_oldest(9);
     let none = table.drop_oldest(u64::MAX);
     drop(table);
-    assert!(rt; is_parted, "there was memory");
-    assert!(rt; bytes == 0, "no request was answered");
-    assert!(rt; young == None, "both lost their connections later");
-    assert!(rt; oldest == Some(Numbered(2)), "the second lost it first");
-    assert!(rt; gone == Found::Unknown, "it was dropped");
-    assert!(rt;
+    check!(&rt; is_parted, "there was memory");
+    check!(&rt; bytes == 0, "no request was answered");
+    check!(&rt; young == None, "both lost their connections later");
+    check!(&rt; oldest == Some(Numbered(2)), "the second lost it first");
+    check!(&rt; gone == Found::Unknown, "it was dropped");
+    check!(&rt;
         (next, none) == (Some(Numbered(1)), None),
         "then the first is dropped, and none is left"
     );
@@ -146,10 +147,10 @@ fn all_kept_sessions_are_dropped_in_order(rt: HostRuntime) {
     let second = table.drop_first();
     let none = table.drop_first();
     drop(table);
-    assert!(rt; is_parted, "there was memory");
-    assert!(rt;
+    check!(&rt; is_parted, "there was memory");
+    check!(&rt;
         (first, second) == (Some(Numbered(2)), Some(Numbered(1))),
         "the second lost its connection first"
     );
-    assert!(rt; none == None, "no session is left");
+    check!(&rt; none == None, "no session is left");
 }

@@ -1,4 +1,5 @@
 use super::askers::{AtFirst, LateAsker};
+use crate::checks::check;
 use chord_map::{Reply, Request};
 use chord_serve::{Asker, CallFault, ReadSize, Served, call, call_2, laws, serve};
 use chord_serve_testkit::{FREE, Limited, Limits, MapAsker};
@@ -105,7 +106,7 @@ const AMPLE: Conditions = Conditions {
 };
 
 /// What a session did.
-#[derive(Clone, Copy, Debug, PartialEq, Eq)]
+#[derive(Clone, Copy, PartialEq, Eq)]
 pub struct Seen {
     /// How it ended.
     pub end: Served,
@@ -121,7 +122,7 @@ pub struct Seen {
 }
 
 /// What a session did, and how many new requests its asker was asked.
-#[derive(Clone, Copy, Debug, PartialEq, Eq)]
+#[derive(Clone, Copy, PartialEq, Eq)]
 pub struct Talk {
     pub seen: Seen,
     pub asked: usize,
@@ -211,15 +212,15 @@ const ANSWERED_ONCE: &[&[u8]] = &[
 #[test]
 fn a_number_is_one_requests_and_is_asked_once(rt: HostRuntime) {
     let talk = mapped(rt.alloc(), REPEATED, ANSWERED_ONCE).expect(&rt, "memory for four frames");
-    assert!(rt;
+    check!(&rt;
         talk.seen.end == Served::Ended,
         "the session goes on to the end of the input"
     );
-    assert!(rt;
+    check!(&rt;
         talk.seen.is_whole,
         "a repeat gets its reply; others get 8 and 9"
     );
-    assert!(rt;
+    check!(&rt;
         talk.asked == 1,
         "the repeat and the refused ones are not asked"
     );
@@ -245,13 +246,13 @@ const LATE_FIRST: &[&[u8]] = &[
 fn a_request_that_got_a_fault_is_asked_again(rt: HostRuntime) {
     let talk = late(rt.alloc(), AtFirst::Full, THREE_TIMES, FULL_FIRST);
     let talk = talk.expect(&rt, "memory for three frames");
-    assert!(rt;
+    check!(&rt;
         talk.seen.end == Served::Ended,
         "the session goes on to the end of the input"
     );
-    assert!(rt; talk.seen.is_whole, "full, then added, then the same reply");
-    assert!(rt; talk.asked == 1, "it is a new request once");
-    assert!(rt;
+    check!(&rt; talk.seen.is_whole, "full, then added, then the same reply");
+    check!(&rt; talk.asked == 1, "it is a new request once");
+    check!(&rt;
         talk.retried == 1,
         "it is asked again once, and not after its reply"
     );
@@ -261,16 +262,16 @@ fn a_request_that_got_a_fault_is_asked_again(rt: HostRuntime) {
 fn a_request_without_an_answer_gets_fault_11(rt: HostRuntime) {
     let talk = late(rt.alloc(), AtFirst::NoAnswer, THREE_TIMES, LATE_FIRST);
     let talk = talk.expect(&rt, "memory for three frames");
-    assert!(rt;
+    check!(&rt;
         talk.seen.end == Served::Ended,
         "the session goes on to the end of the input"
     );
-    assert!(rt;
+    check!(&rt;
         talk.seen.is_whole,
         "no answer, then added, then the same reply"
     );
-    assert!(rt; talk.asked == 1, "it is a new request once");
-    assert!(rt;
+    check!(&rt; talk.asked == 1, "it is a new request once");
+    check!(&rt;
         talk.retried == 1,
         "it is asked again once, and not after its reply"
     );
@@ -301,16 +302,16 @@ const FLOORS_ANSWERED: &[&[u8]] = &[
 fn no_floor_is_above_a_number_without_a_reply(rt: HostRuntime) {
     let talk = late(rt.alloc(), AtFirst::Full, FLOORS, FLOORS_ANSWERED);
     let talk = talk.expect(&rt, "memory for seven frames");
-    assert!(rt;
+    check!(&rt;
         talk.seen.end == Served::Ended,
         "the session goes on to the end of the input"
     );
-    assert!(rt;
+    check!(&rt;
         talk.seen.is_whole,
         "9 for a floor too high, and for a number at or below it"
     );
-    assert!(rt; talk.asked == 2, "requests 1 and 2 are new once each");
-    assert!(rt; talk.retried == 2, "each is asked again once");
+    check!(&rt; talk.asked == 2, "requests 1 and 2 are new once each");
+    check!(&rt; talk.retried == 2, "each is asked again once");
 }
 
 /// An input, how it ends, its answers, and how many requests are asked.
@@ -334,7 +335,7 @@ fn a_session_ends_with_its_input(rt: HostRuntime) {
             seen,
             asked: *asked,
         };
-        assert!(rt; talk == wanted, "{} bytes: {talk:?}", input.len());
+        assert!(rt; talk == wanted, "{} bytes", input.len());
     }
 }
 
@@ -379,7 +380,7 @@ fn a_faulty_frame_ends_the_session_with_its_fault(rt: HostRuntime) {
             is_whole: true,
             ..talk.seen
         };
-        assert!(rt; talk == Talk { seen, asked: 0 }, "fault {code}: {talk:?}");
+        assert!(rt; talk == Talk { seen, asked: 0 }, "fault {code}");
     }
 }
 
@@ -388,12 +389,12 @@ fn a_bad_length_ends_a_session(rt: HostRuntime) {
     let length = [0u8, 0, 0x11, 0x15];
     let talk = mapped(rt.alloc(), &[&length], &[&fault(0, 1)]).expect(&rt, "memory for a frame");
     let malformed = Served::Malformed(FaultCode::BadLength);
-    assert!(rt;
+    check!(&rt;
         talk.seen.end == malformed,
         "the length alone ends the session"
     );
-    assert!(rt; talk.seen.is_whole, "fault 1 is written with number 0");
-    assert!(rt; talk.asked == 0, "nothing is asked");
+    check!(&rt; talk.seen.is_whole, "fault 1 is written with number 0");
+    check!(&rt; talk.asked == 0, "nothing is asked");
 }
 
 #[test]
@@ -401,12 +402,12 @@ fn a_session_keeps_its_version(rt: HostRuntime) {
     let talk = mapped(rt.alloc(), &[&INSERT_2, &INSERT], &[&ADDED, &fault(0, 2)]);
     let talk = talk.expect(&rt, "memory for two frames");
     let malformed = Served::Malformed(FaultCode::BadVersion);
-    assert!(rt;
+    check!(&rt;
         talk.seen.end == malformed,
         "the frame of the other version ends the session"
     );
-    assert!(rt; talk.seen.is_whole, "fault 2 is behind the first answer");
-    assert!(rt; talk.asked == 1, "only the first is asked");
+    check!(&rt; talk.seen.is_whole, "fault 2 is behind the first answer");
+    check!(&rt; talk.asked == 1, "only the first is asked");
 }
 
 /// A session over the first `cut` bytes of the three frames.
@@ -438,7 +439,7 @@ fn frames_cut_anywhere_are_answered_as_far_as_they_are_whole(rt: HostRuntime) {
             answered: Some(answered),
             ..seen
         };
-        assert!(rt; seen == wanted, "{cut} bytes: {seen:?}");
+        assert!(rt; seen == wanted, "{cut} bytes");
     }
 }
 
@@ -475,7 +476,7 @@ fn a_reader_that_fails_ends_the_session(rt: HostRuntime) {
             reads: calls,
             ..seen
         };
-        assert!(rt; seen == wanted, "{calls} reads: {seen:?}");
+        assert!(rt; seen == wanted, "{calls} reads");
     }
 }
 
@@ -510,7 +511,7 @@ fn a_writer_that_fails_ends_the_session(rt: HostRuntime) {
             answered: Some(written),
             ..seen
         };
-        assert!(rt; seen == wanted, "{calls} writes: {seen:?}");
+        assert!(rt; seen == wanted, "{calls} writes");
     }
 }
 
@@ -518,11 +519,11 @@ fn a_writer_that_fails_ends_the_session(rt: HostRuntime) {
 fn a_writer_that_takes_no_byte_ends_the_session(rt: HostRuntime) {
     let seen = three_frames(rt.alloc(), THREE_FRAMES, writing(0, 20));
     let seen = seen.expect(&rt, "memory for three frames");
-    assert!(rt;
+    check!(&rt;
         seen.end == Served::Write,
         "a write of no byte is a failed one"
     );
-    assert!(rt; seen.answered == Some(0), "nothing was written");
+    check!(&rt; seen.answered == Some(0), "nothing was written");
 }
 
 #[test]
@@ -543,7 +544,7 @@ fn a_session_makes_at_most_its_turns_of_reads(rt: HostRuntime) {
             reads,
             ..seen
         };
-        assert!(rt; seen == wanted, "{turns} turns of {step} bytes: {seen:?}");
+        assert!(rt; seen == wanted, "{turns} turns of {step} bytes");
     }
 }
 
@@ -614,10 +615,10 @@ fn both_called(alloc: Global) -> Option<(Called, Called)> {
 #[test]
 fn a_call_writes_its_frame_and_reads_its_answer(rt: HostRuntime) {
     let (first, second) = both_called(rt.alloc()).expect(&rt, "memory for two calls");
-    assert!(rt; first.is_frame, "`call` writes the frame of version 1");
-    assert!(rt; first.is_added, "`call` gives the answer");
-    assert!(rt; second.is_frame, "`call_2` writes the frame of version 2");
-    assert!(rt; second.is_added, "`call_2` gives the answer");
+    check!(&rt; first.is_frame, "`call` writes the frame of version 1");
+    check!(&rt; first.is_added, "`call` gives the answer");
+    check!(&rt; second.is_frame, "`call_2` writes the frame of version 2");
+    check!(&rt; second.is_added, "`call_2` gives the answer");
 }
 
 /// The devices of a call, which move at most 7 bytes a read or write: the reads and the writes that

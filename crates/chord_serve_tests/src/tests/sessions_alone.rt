@@ -1,6 +1,7 @@
 //! A session without an asker: what is done with each request, and what is kept. This is all that
 //! `chord_session` offers.
 
+use crate::checks::check;
 use chord_map::{Bytes, Request};
 use chord_session::{Move, Session};
 use chord_wire::{FaultCode, WireRequest};
@@ -152,5 +153,5 @@ fn newest_value(alloc: Global, session: &mut Session, number: u64, value: u8) ->
 #[test]
 fn the_request_added_last_is_the_newest(rt: HostRuntime) {
     let newest = newest_values(rt.alloc()).expect(&rt, "memory for two requests");
-    assert!(rt; newest == [b'a', b'b'], "{newest:?}");
+    check!(&rt; newest == [b'a', b'b']);
 }

@@ -5,6 +5,7 @@ use super::sessions::{
     ADDED, Conditions, Frames, INSERT, RETRIEVE, Seen, THREE_ANSWERS, THREE_FRAMES, Talk, fault,
     joined, limited, three_frames,
 };
+use crate::checks::check;
 use chord_map::Request;
 use chord_serve::{Due, ReadSize, Served};
 use chord_serve_testkit::{FREE, Limits, MapAsker};
@@ -50,7 +51,7 @@ fn the_answers_to_one_read_are_one_write(rt: HostRuntime) {
             writes,
             ..seen
         };
-        assert!(rt; seen == wanted, "reads of {step} bytes: {seen:?}");
+        assert!(rt; seen == wanted, "reads of {step} bytes");
     }
 }
 
@@ -78,7 +79,7 @@ fn large_reads_double_up_to_their_size(rt: HostRuntime) {
             reads,
             writes: reads - 1,
         };
-        assert!(rt; seen == wanted, "reads of size {size:?}: {seen:?}");
+        assert!(rt; seen == wanted, "reads of size {size:?}");
     }
 }
 
@@ -88,12 +89,12 @@ fn half_a_frame_writes_nothing(rt: HostRuntime) {
     let asker = MapAsker::new(alloc);
     let (seen, asker) = limited(alloc, (&INSERT[..18], &[]), AMPLE, asker);
     drop(asker);
-    assert!(rt;
+    check!(&rt;
         seen.end == Served::Truncated,
         "the input ends within a frame"
     );
-    assert!(rt; seen.answered == Some(0), "half a frame has no answer");
-    assert!(rt;
+    check!(&rt; seen.answered == Some(0), "half a frame has no answer");
+    check!(&rt;
         seen.writes == 0,
         "nothing is written where no answer is due"
     );
@@ -120,7 +121,7 @@ fn a_failed_write_ends_the_session(rt: HostRuntime) {
             writes,
             ..seen
         };
-        assert!(rt; seen == wanted, "{writes} writes: {seen:?}");
+        assert!(rt; seen == wanted, "{writes} writes");
     }
 }
 
@@ -142,24 +143,24 @@ fn with_a_bad_frame(alloc: Global, conditions: Conditions) -> Option<Seen> {
 fn a_refused_frame_goes_out_with_the_answers_before_it(rt: HostRuntime) {
     let seen = with_a_bad_frame(rt.alloc(), AMPLE).expect(&rt, "memory for four frames");
     let malformed = Served::Malformed(FaultCode::BadOperation);
-    assert!(rt; seen.end == malformed, "the refused frame ends the session");
-    assert!(rt;
+    check!(&rt; seen.end == malformed, "the refused frame ends the session");
+    check!(&rt;
         seen.answered == Some(45),
         "two answers and the fault are written, no fourth"
     );
-    assert!(rt; seen.writes == 1, "they are one write");
+    check!(&rt; seen.writes == 1, "they are one write");
 }
 
 #[test]
 fn a_write_that_fails_is_the_end_though_a_frame_was_refused(rt: HostRuntime) {
     let seen = with_a_bad_frame(rt.alloc(), with_writes(0));
     let seen = seen.expect(&rt, "memory for four frames");
-    assert!(rt;
+    check!(&rt;
         seen.end == Served::Write,
         "the failed write ends the session"
     );
-    assert!(rt; seen.answered == Some(0), "nothing was written");
-    assert!(rt; seen.writes == 0, "no write succeeded");
+    check!(&rt; seen.answered == Some(0), "nothing was written");
+    check!(&rt; seen.writes == 0, "no write succeeded");
 }
 
 /// Inserts with the numbers 1, 2 and 3, and the first two answers.
@@ -197,7 +198,7 @@ fn what_is_due_is_written_before_memory_ends_a_session(rt: HostRuntime) {
             seen,
             asked: number,
         };
-        assert!(rt; talk == wanted, "at insert {number}: {talk:?}");
+        assert!(rt; talk == wanted, "at insert {number}");
     }
 }
 
@@ -205,13 +206,13 @@ fn what_is_due_is_written_before_memory_ends_a_session(rt: HostRuntime) {
 fn a_write_that_fails_is_the_end_though_memory_ran_out(rt: HostRuntime) {
     let talk = out_of_memory_at(rt.alloc(), 3, with_writes(0));
     let talk = talk.expect(&rt, "memory for three frames");
-    assert!(rt;
+    check!(&rt;
         talk.seen.end == Served::Write,
         "the failed write ends the session"
     );
-    assert!(rt; talk.seen.answered == Some(0), "nothing was written");
-    assert!(rt; talk.seen.writes == 0, "no write succeeded");
-    assert!(rt; talk.asked == 3, "all three were asked before the write");
+    check!(&rt; talk.seen.answered == Some(0), "nothing was written");
+    check!(&rt; talk.seen.writes == 0, "no write succeeded");
+    check!(&rt; talk.asked == 3, "all three were asked before the write");
 }
 
 /// Insert a value of 4,096 bytes under a.
@@ -259,26 +260,26 @@ fn more_than_64_kib_are_written_at_once(rt: HostRuntime) {
             writes,
             ..talk.seen
         };
-        assert!(rt; talk == Talk { seen, asked: 3 }, "{count} values: {talk:?}");
+        assert!(rt; talk == Talk { seen, asked: 3 }, "{count} values");
     }
 }
 
 #[test]
 fn a_second_write_that_fails_leaves_the_first(rt: HostRuntime) {
     let talk = retrieved(rt.alloc(), 16, with_writes(1)).expect(&rt, "memory for the values");
-    assert!(rt;
+    check!(&rt;
         talk.seen.end == Served::Write,
         "the failed write ends the session"
     );
-    assert!(rt; talk.seen.len == 65_586, "the first reply was written");
-    assert!(rt; talk.seen.writes == 1, "the second was not");
-    assert!(rt; talk.asked == 2, "the third retrieve was not asked");
+    check!(&rt; talk.seen.len == 65_586, "the first reply was written");
+    check!(&rt; talk.seen.writes == 1, "the second was not");
+    check!(&rt; talk.asked == 2, "the third retrieve was not asked");
 }
 
 #[test]
 fn sizes_of_reads(rt: HostRuntime) {
-    assert!(rt; ReadSize::Small.most_bytes() == 4_096, "a small read");
-    assert!(rt; ReadSize::Large.most_bytes() == 65_536, "a large read");
+    check!(&rt; ReadSize::Small.most_bytes() == 4_096, "a small read");
+    check!(&rt; ReadSize::Large.most_bytes() == 65_536, "a large read");
 }
 
 /// Whether all of an output is written, and nothing of it once it is cleared.
@@ -311,12 +312,12 @@ fn is_full_at(alloc: Global, len: usize) -> Option<bool> {
 fn output_above_64_kib_is_full(rt: HostRuntime) {
     for (len, is_full) in [(0, false), (65_536, false), (65_537, true)] {
         let seen = is_full_at(rt.alloc(), len);
-        assert!(rt; seen == Some(is_full), "{len} bytes: {seen:?}");
+        assert!(rt; seen == Some(is_full), "{len} bytes");
     }
 }
 
 #[test]
 fn output_that_is_due_is_written(rt: HostRuntime) {
     let seen = writes_what_is_due(rt.alloc());
-    assert!(rt; seen == Some((true, true)), "all of it, and once");
+    check!(&rt; seen == Some((true, true)), "all of it, and once");
 }

@@ -5,6 +5,7 @@ use super::{
     ADDED, INSERT, INSERT_2, ONE_VALUE, TWO_VALUES, is_frame, is_nothing, is_reply, reply_frame,
     request_frame, values,
 };
+use crate::checks::check;
 use chord_map::{Reply, Request};
 use chord_wire::{Answer, Answers, FaultCode, Frames, WireRequest, write_fault};
 use std::alloc::{AllocError, Global};
@@ -115,7 +116,7 @@ fn inserts_in_pieces(alloc: Global) -> Option<[Option<(bool, usize)>; 2]> {
 #[test]
 fn requests_are_read_where_growths_are_refused(rt: HostRuntime) {
     let are_read = inserts_in_pieces(rt.alloc());
-    assert!(rt; are_read == Some([Some((true, 0)); 2]));
+    check!(&rt; are_read == Some([Some((true, 0)); 2]));
 }
 
 /// Feeds two answers, the first byte by byte and the second whole.
@@ -146,8 +147,8 @@ fn answers_are_read_where_growths_are_refused(rt: HostRuntime) {
     ];
     let left = answers.left();
     drop(answers);
-    assert!(rt; are_fed & (left == 0));
-    assert!(rt; are_read == [Some(true); 2]);
+    check!(&rt; are_fed & (left == 0));
+    check!(&rt; are_read == [Some(true); 2]);
 }
 
 /// Whether the request is written as this frame in this version.
@@ -168,7 +169,7 @@ fn requests_are_written_where_growths_are_refused(rt: HostRuntime) {
         is_written(alloc, 1, &INSERT),
         is_written(alloc, 2, &INSERT_2),
     ];
-    assert!(rt; are_written == [Some(true); 2]);
+    check!(&rt; are_written == [Some(true); 2]);
 }
 
 fn is_reply_written(alloc: Global) -> Option<bool> {
@@ -183,7 +184,7 @@ fn is_reply_written(alloc: Global) -> Option<bool> {
 
 #[test]
 fn replies_are_written_where_growths_are_refused(rt: HostRuntime) {
-    assert!(rt; is_reply_written(rt.alloc()) == Some(true));
+    check!(&rt; is_reply_written(rt.alloc()) == Some(true));
 }
 
 fn is_fault_written(alloc: Global) -> Option<bool> {
@@ -199,5 +200,5 @@ fn is_fault_written(alloc: Global) -> Option<bool> {
 
 #[test]
 fn faults_are_written_where_growths_are_refused(rt: HostRuntime) {
-    assert!(rt; is_fault_written(rt.alloc()) == Some(true));
+    check!(&rt; is_fault_written(rt.alloc()) == Some(true));
 }

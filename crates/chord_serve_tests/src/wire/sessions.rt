@@ -1,5 +1,6 @@
 //! The frames of a session, byte by byte as docs/protocol.md has them.
 
+use crate::checks::check;
 use chord_wire::{
     Answer, FaultCode, Opening, SessionAnswer, SessionAnswers, SessionFrame, SessionFrames, Token,
     WireFault, laws, write_close, write_closed, write_open, write_opened,
@@ -47,7 +48,7 @@ const OPENING: Opening = Opening {
 };
 
 /// What a frame of a client is, but for what a request asks.
-#[derive(Clone, Copy, Debug, PartialEq, Eq)]
+#[derive(Clone, Copy, PartialEq, Eq)]
 enum Kind {
     Request { version: u8, number: u64 },
     Open(Opening),
@@ -55,7 +56,7 @@ enum Kind {
 }
 
 /// What a frame of a server is, but for what an answer says.
-#[derive(Clone, Copy, Debug, PartialEq, Eq)]
+#[derive(Clone, Copy, PartialEq, Eq)]
 enum Told {
     Reply(u64),
     Fault(u64, FaultCode),
@@ -125,17 +126,17 @@ fn session_frames_are_read(rt: HostRuntime) {
         version: 1,
         number: 1,
     };
-    for (bytes, kind) in [
-        (OPEN.as_slice(), Kind::Open(OPENING)),
-        (&CLOSE, Kind::Close),
-        (&INSERT_2, second),
-        (&INSERT, first),
+    for (what, bytes, kind) in [
+        ("an open", OPEN.as_slice(), Kind::Open(OPENING)),
+        ("a close", &CLOSE, Kind::Close),
+        ("a request of version 2", &INSERT_2, second),
+        ("a request of version 1", &INSERT, first),
     ] {
         let found = read(alloc, bytes);
-        assert!(rt; found == Ok((Some(kind), 0)), "{kind:?}: {found:?}");
+        check!(&rt; found == Ok((Some(kind), 0)), what);
         for len in 0..bytes.len() {
             let cut = read(alloc, &bytes[..len]);
-            assert!(rt; cut == Ok((None, len)), "{kind:?}, {len} bytes: {cut:?}");
+            assert!(rt; cut == Ok((None, len)), "{what}, {len} bytes");
         }
     }
 }
@@ -144,17 +145,17 @@ fn session_frames_are_read(rt: HostRuntime) {
 fn session_answers_are_read(rt: HostRuntime) {
     let alloc = rt.alloc();
     let known = [0, 0, 0, 0x0b, 1, 0xff, 0, 0, 0, 0, 0, 0, 0, 0, 13];
-    for (bytes, told) in [
-        (OPENED.as_slice(), Told::Opened(3, 258)),
-        (&CLOSED, Told::Closed),
-        (&ADDED, Told::Reply(1)),
-        (&known, Told::Fault(0, FaultCode::SessionKnown)),
+    for (what, bytes, told) in [
+        ("an opened", OPENED.as_slice(), Told::Opened(3, 258)),
+        ("a closed", &CLOSED, Told::Closed),
+        ("a reply", &ADDED, Told::Reply(1)),
+        ("a fault", &known, Told::Fault(0, FaultCode::SessionKnown)),
     ] {
         let found = read_told(alloc, bytes);
-        assert!(rt; found == Ok((Some(told), 0)), "{told:?}: {found:?}");
+        check!(&rt; found == Ok((Some(told), 0)), what);
         for len in 0..bytes.len() {
             let cut = read_told(alloc, &bytes[..len]);
-            assert!(rt; cut == Ok((None, len)), "{told:?}, {len} bytes: {cut:?}");
+            assert!(rt; cut == Ok((None, len)), "{what}, {len} bytes");
         }
     }
 }
@@ -180,21 +181,21 @@ fn session_frames_are_written(rt: HostRuntime) {
         write_open(alloc, OPENING).ok(),
         write_open(alloc, begins).ok(),
     );
-    assert!(rt;
+    check!(&rt;
         is_frame(resumed, &OPEN) == Some(true),
         "an open that resumes"
     );
-    assert!(rt;
+    check!(&rt;
         is_frame(begun, &first) == Some(true),
         "an open that begins"
     );
-    assert!(rt;
+    check!(&rt;
         is_frame(write_close(alloc).ok(), &CLOSE) == Some(true),
         "a close"
     );
     let opened = write_opened(alloc, 3, 258).ok();
-    assert!(rt; is_frame(opened, &OPENED) == Some(true), "an opened");
-    assert!(rt;
+    check!(&rt; is_frame(opened, &OPENED) == Some(true), "an opened");
+    check!(&rt;
         is_frame(write_closed(alloc).ok(), &CLOSED) == Some(true),
         "a closed"
     );
@@ -308,19 +309,19 @@ fn begins(alloc: Global, bytes: &[u8]) -> Option<Option<bool>> {
 #[test]
 fn two_bytes_tell_an_open(rt: HostRuntime) {
     let alloc = rt.alloc();
-    assert!(rt;
+    check!(&rt;
         begins(alloc, &OPEN[..5]) == Some(None),
         "five bytes are too few"
     );
-    assert!(rt;
+    check!(&rt;
         begins(alloc, &OPEN[..6]) == Some(Some(true)),
         "six are enough"
     );
-    assert!(rt;
+    check!(&rt;
         begins(alloc, &CLOSE) == Some(Some(false)),
         "a close is no open"
     );
-    assert!(rt;
+    check!(&rt;
         begins(alloc, &INSERT) == Some(Some(false)),
         "nor is a request"
     );
@@ -330,7 +331,7 @@ fn two_bytes_tell_an_open(rt: HostRuntime) {
 fn a_token_is_not_shown(rt: HostRuntime) {
     let text = format!(in rt.alloc(); "{:?}", OPENING.token).ok();
     let is_hidden = text.is_some_and(|text| text.as_str() == "Token");
-    assert!(rt; is_hidden);
+    check!(&rt; is_hidden);
 }
 
 #[test]

@@ -1,6 +1,7 @@
 //! A client answers as a caller does, and hands out what it takes.
 
 use super::{added, insert, is_ask, number_of};
+use crate::checks::check;
 use chord_caller::{Ask, ClientCore, ResendFault, SubmitFault, TakeOutcome, Told};
 use chord_map::{Reply, RequestFault, SharedValues};
 use std::alloc::Global;
@@ -63,8 +64,8 @@ fn sends_two(alloc: Global) -> Option<(bool, bool)> {
 #[test]
 fn a_client_sends_two_requests(rt: HostRuntime) {
     let nothing = (7, None, Some(ResendFault::Idle));
-    assert!(rt; nothing_pending(rt.alloc()) == Some(nothing));
-    assert!(rt; sends_two(rt.alloc()) == Some((true, true)));
+    check!(&rt; nothing_pending(rt.alloc()) == Some(nothing));
+    check!(&rt; sends_two(rt.alloc()) == Some((true, true)));
 }
 
 /// Whether the second reply is handed out, and known when
@@ -106,7 +107,7 @@ fn second_first(
 fn a_client_with_a_window_of_two(rt: HostRuntime) {
     let second = (true, true, Some(1), 0);
     let waits = (Some(SubmitFault::WindowFull), true);
-    assert!(rt; second_first(rt.alloc()) == Some((second, waits)));
+    check!(&rt; second_first(rt.alloc()) == Some((second, waits)));
 }
 
 /// Whether the first reply is then handed out, the floor, and the pending request.
@@ -136,7 +137,7 @@ fn both(alloc: Global) -> Option<((bool, u64, Option<u64>), (Option<SubmitFault>
 #[test]
 fn a_window_moves_on(rt: HostRuntime) {
     let moved = ((true, 2, None), (None, true, true));
-    assert!(rt; both(rt.alloc()) == Some(moved));
+    check!(&rt; both(rt.alloc()) == Some(moved));
 }
 
 /// Client 0 after an empty key and an insert, and why the empty key was refused.
@@ -173,7 +174,7 @@ fn foreign(alloc: Global) -> Option<(Option<SubmitFault>, (bool, bool, bool), bo
 #[test]
 fn a_client_hears_no_foreign_reply(rt: HostRuntime) {
     let empty = Some(SubmitFault::Bad(RequestFault::KeyEmpty));
-    assert!(rt; foreign(rt.alloc()) == Some((empty, (true, true, true), true, true)));
+    check!(&rt; foreign(rt.alloc()) == Some((empty, (true, true, true), true, true)));
 }
 
 /// The number of the submitted call. If memory was refused,
@@ -232,5 +233,5 @@ fn turned_round(alloc: Global) -> Option<([Result<u64, SubmitFault>; 2], bool, O
 #[test]
 fn a_client_turns_round_in_its_window(rt: HostRuntime) {
     let turned = ([Ok(1), Ok(2)], true, Some(60));
-    assert!(rt; turned_round(rt.alloc()) == Some(turned));
+    check!(&rt; turned_round(rt.alloc()) == Some(turned));
 }

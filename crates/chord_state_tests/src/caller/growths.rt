@@ -2,6 +2,7 @@
 // With ample memory nothing is refused. A refused call is tried again, with memory for it.
 
 use super::{added, asks, number_of};
+use crate::checks::check;
 use chord_caller::{CallerCore, Heard, Note, ResendFault, SubmitFault, TakeFault};
 use std::alloc::Global;
 
@@ -100,5 +101,5 @@ fn a_refused_growth_leaves_the_caller(rt: HostRuntime) {
     let is_taken = takes_nine(&mut core);
     let shown = shows(alloc, &core);
     drop(core);
-    assert!(rt; (is_submitted, is_taken, shown) == (true, true, Some((9, 9))));
+    check!(&rt; (is_submitted, is_taken, shown) == (true, true, Some((9, 9))));
 }

@@ -1,6 +1,7 @@
 //! Rings of two and of three nodes.
 ghost use Rattle.std.specs.Prelude.{[]};
 
+use crate::checks::check;
 use chord_ident::Id;
 use chord_links::{Links, Peer};
 use chord_ring::{
@@ -27,7 +28,7 @@ const C: Id = Id {
 /// Checks the list of a member.
 fn list_of(rt: &impl Abort, ring: &RingCore, number: u64, wanted: &[Peer]) {
     let links = ring.links(number).expect(rt, "a member");
-    assert!(rt; links.list().entries() == wanted);
+    check!(rt; links.list().entries() == wanted);
 }
 
 /// A ring of A and C, where A has taken C as its first entry.
@@ -36,13 +37,13 @@ fn two_nodes(rt: &impl Abort, alloc: Global) -> RingCore {
     let c = Peer { number: 1, id: C };
     let mut ring = RingCore::found(alloc, A, 3).expect(rt, "memory");
     list_of(rt, &ring, 0, &[a]);
-    assert!(rt; ring.reserve() == Ok(()));
-    assert!(rt; ring.step(RingStep::Join(C, 0)) == Ok(RingDid::Joined(1)));
+    check!(rt; ring.reserve() == Ok(()));
+    check!(rt; ring.step(RingStep::Join(C, 0)) == Ok(RingDid::Joined(1)));
     list_of(rt, &ring, 1, &[a]);
-    assert!(rt; ring.step(RingStep::Rectify(0, 1)) == Ok(RingDid::Done));
-    assert!(rt; ring.step(RingStep::Stabilise(0, 0)) == Ok(RingDid::Candidate(Some(c))));
+    check!(rt; ring.step(RingStep::Rectify(0, 1)) == Ok(RingDid::Done));
+    check!(rt; ring.step(RingStep::Stabilise(0, 0)) == Ok(RingDid::Candidate(Some(c))));
     list_of(rt, &ring, 0, &[a]);
-    assert!(rt; ring.step(RingStep::Candidate(0, 1)) == Ok(RingDid::Done));
+    check!(rt; ring.step(RingStep::Candidate(0, 1)) == Ok(RingDid::Done));
     list_of(rt, &ring, 0, &[c, a]);
     ring
 }
@@ -50,15 +51,15 @@ fn two_nodes(rt: &impl Abort, alloc: Global) -> RingCore {
 #[test]
 fn the_last_principal_stays(rt: HostRuntime) {
     let mut ring = two_nodes(&rt, rt.alloc());
-    assert!(rt; !ring.can_depart(0));
-    assert!(rt; ring.can_depart(1));
+    check!(&rt; !ring.can_depart(0));
+    check!(&rt; ring.can_depart(1));
     ring.depart(1);
-    assert!(rt; !ring.is_member(1) && ring.is_member(0));
-    assert!(rt; ring.links(1) == None);
-    assert!(rt; !ring.can_depart(0));
-    assert!(rt; ring.step(RingStep::Join(A, 0)) == Err(RingFault::IdTaken));
-    assert!(rt; ring.step(RingStep::Join(C, 0)) == Err(RingFault::IdTaken));
-    assert!(rt; ring.step(RingStep::Rectify(0, 1)) == Err(RingFault::NoSuchNode));
+    check!(&rt; !ring.is_member(1) && ring.is_member(0));
+    check!(&rt; ring.links(1) == None);
+    check!(&rt; !ring.can_depart(0));
+    check!(&rt; ring.step(RingStep::Join(A, 0)) == Err(RingFault::IdTaken));
+    check!(&rt; ring.step(RingStep::Join(C, 0)) == Err(RingFault::IdTaken));
+    check!(&rt; ring.step(RingStep::Rectify(0, 1)) == Err(RingFault::NoSuchNode));
     ring.stands_on_one_ring();
     principals_stand_on_one_ring();
 }
@@ -69,22 +70,22 @@ fn a_dead_head_is_dropped(rt: HostRuntime) {
     let b = Peer { number: 2, id: B };
     let c = Peer { number: 1, id: C };
     let mut ring = two_nodes(&rt, rt.alloc());
-    assert!(rt; ring.step(RingStep::Join(B, 0)) == Ok(RingDid::Joined(2)));
+    check!(&rt; ring.step(RingStep::Join(B, 0)) == Ok(RingDid::Joined(2)));
     list_of(&rt, &ring, 2, &[c, a]);
-    assert!(rt; ring.step(RingStep::Candidate(0, 2)) == Ok(RingDid::Done));
+    check!(&rt; ring.step(RingStep::Candidate(0, 2)) == Ok(RingDid::Done));
     list_of(&rt, &ring, 0, &[b, c, a]);
-    assert!(rt;
+    check!(&rt;
         ring.step(RingStep::Candidate(0, 1)) == Err(RingFault::Candidate(CandidateFault::NotCloser))
     );
-    assert!(rt; ring.step(RingStep::DropDead(0)) == Err(RingFault::Drop(DropFault::HeadLive)));
-    assert!(rt; ring.can_depart(2));
+    check!(&rt; ring.step(RingStep::DropDead(0)) == Err(RingFault::Drop(DropFault::HeadLive)));
+    check!(&rt; ring.can_depart(2));
     ring.depart(2);
-    assert!(rt;
+    check!(&rt;
         ring.step(RingStep::Stabilise(0, 2)) == Err(RingFault::Stabilise(StabiliseFault::HeadDead))
     );
-    assert!(rt; ring.step(RingStep::DropDead(0)) == Ok(RingDid::Done));
+    check!(&rt; ring.step(RingStep::DropDead(0)) == Ok(RingDid::Done));
     list_of(&rt, &ring, 0, &[c, a]);
-    assert!(rt; ring.step(RingStep::Stabilise(0, 1)) == Ok(RingDid::Candidate(None)));
+    check!(&rt; ring.step(RingStep::Stabilise(0, 1)) == Ok(RingDid::Candidate(None)));
     list_of(&rt, &ring, 0, &[c, a]);
 }
 
@@ -94,28 +95,28 @@ fn steps_change_links(rt: HostRuntime) {
     let b = Peer { number: 2, id: B };
     let c = Peer { number: 1, id: C };
     let mut mine = Links::alone(a, 3);
-    assert!(rt; join_behind(a, &mine) == Err(NotBetween));
+    check!(&rt; join_behind(a, &mine) == Err(NotBetween));
     let theirs = join_behind(c, &mine).expect(&rt, "between");
-    assert!(rt; theirs.predecessor() == Some(a));
-    assert!(rt; theirs.list().entries() == [a].as_slice());
-    assert!(rt; rectify(&mut mine, c, false));
-    assert!(rt; !rectify(&mut mine, b, true));
-    assert!(rt; mine.predecessor() == Some(c));
+    check!(&rt; theirs.predecessor() == Some(a));
+    check!(&rt; theirs.list().entries() == [a].as_slice());
+    check!(&rt; rectify(&mut mine, c, false));
+    check!(&rt; !rectify(&mut mine, b, true));
+    check!(&rt; mine.predecessor() == Some(c));
     let copy = mine;
-    assert!(rt; stabilise(&mut mine, &copy, true) == Ok(Some(c)));
-    assert!(rt; stabilise(&mut mine, &copy, false) == Err(StabiliseFault::HeadDead));
-    assert!(rt; stabilise(&mut mine, &theirs, true) == Err(StabiliseFault::NotHead));
-    assert!(rt; take_candidate(&mut mine, &theirs, false) == Err(CandidateFault::Dead));
-    assert!(rt; take_candidate(&mut mine, &theirs, true) == Ok(()));
-    assert!(rt; mine.list().entries() == [c, a].as_slice());
+    check!(&rt; stabilise(&mut mine, &copy, true) == Ok(Some(c)));
+    check!(&rt; stabilise(&mut mine, &copy, false) == Err(StabiliseFault::HeadDead));
+    check!(&rt; stabilise(&mut mine, &theirs, true) == Err(StabiliseFault::NotHead));
+    check!(&rt; take_candidate(&mut mine, &theirs, false) == Err(CandidateFault::Dead));
+    check!(&rt; take_candidate(&mut mine, &theirs, true) == Ok(()));
+    check!(&rt; mine.list().entries() == [c, a].as_slice());
     let members = [Some(mine), Some(theirs)];
-    assert!(rt; can_depart_among(&members, 1) && !can_depart_among(&members, 0));
-    assert!(rt; !can_depart_among(&members, 2));
-    assert!(rt; take_candidate(&mut mine, &theirs, true) == Err(CandidateFault::NotCloser));
-    assert!(rt; drop_dead(&mut mine, true) == Err(DropFault::HeadLive));
-    assert!(rt; drop_dead(&mut mine, false) == Ok(()));
-    assert!(rt; mine.list().entries() == [a].as_slice());
-    assert!(rt; drop_dead(&mut mine, false) == Err(DropFault::Empty));
+    check!(&rt; can_depart_among(&members, 1) && !can_depart_among(&members, 0));
+    check!(&rt; !can_depart_among(&members, 2));
+    check!(&rt; take_candidate(&mut mine, &theirs, true) == Err(CandidateFault::NotCloser));
+    check!(&rt; drop_dead(&mut mine, true) == Err(DropFault::HeadLive));
+    check!(&rt; drop_dead(&mut mine, false) == Ok(()));
+    check!(&rt; mine.list().entries() == [a].as_slice());
+    check!(&rt; drop_dead(&mut mine, false) == Err(DropFault::Empty));
 }
 
 /// Members whose links are in a list of the test's own.
@@ -154,43 +155,43 @@ fn upkeep_reads_any_list_of_links(rt: HostRuntime) {
     let links = [mine, theirs];
     let members = Members { links: &links };
     let (mine, is_new) = rectify_in(&members, 0, 1).expect(&rt, "two members");
-    assert!(rt; is_new && mine.predecessor() == Some(c), "A hears of C");
-    assert!(rt;
+    check!(&rt; is_new && mine.predecessor() == Some(c), "A hears of C");
+    check!(&rt;
         rectify_in(&members, 0, 2) == Err(RingFault::NoSuchNode),
         "there is no third member"
     );
     let links = [Some(mine), theirs];
     let members = Members { links: &links };
     let stabilised = stabilise_in(&members, 0, 0);
-    assert!(rt;
+    check!(&rt;
         stabilised == Ok((mine, Some(c))),
         "A learns of C from itself"
     );
-    assert!(rt;
+    check!(&rt;
         stabilise_in(&members, 0, 1) == Err(RingFault::Stabilise(StabiliseFault::NotHead)),
         "C is not A's first entry yet"
     );
     let mine = take_candidate_in(&members, 0, 1).expect(&rt, "C is nearer");
-    assert!(rt;
+    check!(&rt;
         mine.list().entries() == [c, a].as_slice(),
         "C is A's first entry now"
     );
     let links = [Some(mine), theirs];
     let members = Members { links: &links };
-    assert!(rt;
+    check!(&rt;
         take_candidate_in(&members, 0, 1) == Err(RingFault::Candidate(CandidateFault::NotCloser)),
         "C is no nearer than itself"
     );
-    assert!(rt;
+    check!(&rt;
         drop_dead_in(&members, 0) == Err(RingFault::Drop(DropFault::HeadLive)),
         "C is live"
     );
-    assert!(rt; can_depart_in(&members, 1), "A stays a principal without C");
-    assert!(rt; !can_depart_in(&members, 0), "C's list has A alone");
+    check!(&rt; can_depart_in(&members, 1), "A stays a principal without C");
+    check!(&rt; !can_depart_in(&members, 0), "C's list has A alone");
     let links = [Some(mine), None];
     let members = Members { links: &links };
     let mine = drop_dead_in(&members, 0).expect(&rt, "C departed");
-    assert!(rt;
+    check!(&rt;
         mine.list().entries() == [a].as_slice(),
         "A's list has A alone"
     );

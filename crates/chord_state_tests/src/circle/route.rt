@@ -2,6 +2,7 @@
 
 ghost use Rattle.std.specs.Prelude.{◌<◌};
 
+use crate::checks::check;
 use chord_ident::Id;
 use chord_links::{Links, Peer, SuccList};
 use chord_route::{Hop, LinkReader, LookupFault, find_predecessor, find_successor, next_hop};
@@ -65,29 +66,29 @@ fn looks_up_on_an_ideal_ring_of_three(rt: HostRuntime) {
     let at_b = links_of(b, c, [c, c, a]);
     let at_c = links_of(c, a, [a, a, a]);
     let key = Id::new(6 * EIGHTH);
-    assert!(rt; next_hop(&at_a, key) == Hop::Near(c));
-    assert!(rt; next_hop(&at_c, key) == Hop::Last(a));
+    check!(&rt; next_hop(&at_a, key) == Hop::Near(c));
+    check!(&rt; next_hop(&at_c, key) == Hop::Last(a));
     let whole = Table {
         links: [Some(at_a), Some(at_b), Some(at_c)],
     };
-    assert!(rt; find_successor(&whole, 0, key) == Ok(a));
-    assert!(rt; find_predecessor(&whole, 0, key) == Ok(c));
-    assert!(rt; find_successor(&whole, 3, key) == Err(LookupFault::NoSuchNode));
+    check!(&rt; find_successor(&whole, 0, key) == Ok(a));
+    check!(&rt; find_predecessor(&whole, 0, key) == Ok(c));
+    check!(&rt; find_successor(&whole, 3, key) == Err(LookupFault::NoSuchNode));
     let broken = Table {
         links: [Some(at_a), Some(at_b), None],
     };
-    assert!(rt; find_successor(&broken, 0, key) == Err(LookupFault::Unsettled));
-    assert!(rt; find_predecessor(&broken, 2, key) == Err(LookupFault::NoSuchNode));
+    check!(&rt; find_successor(&broken, 0, key) == Err(LookupFault::Unsettled));
+    check!(&rt; find_predecessor(&broken, 2, key) == Err(LookupFault::NoSuchNode));
 }
 
 #[test]
 fn a_node_alone_is_near_itself(rt: HostRuntime) {
     let a = peer(0, 4);
     let alone = Links::alone(a, 3);
-    assert!(rt; next_hop(&alone, Id::new(EIGHTH)) == Hop::Last(a));
+    check!(&rt; next_hop(&alone, Id::new(EIGHTH)) == Hop::Last(a));
     let table = Table {
         links: [Some(alone), None, None],
     };
-    assert!(rt; find_successor(&table, 0, a.id) == Ok(a));
-    assert!(rt; find_predecessor(&table, 0, a.id) == Ok(a));
+    check!(&rt; find_successor(&table, 0, a.id) == Ok(a));
+    check!(&rt; find_predecessor(&table, 0, a.id) == Ok(a));
 }

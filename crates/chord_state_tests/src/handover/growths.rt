@@ -5,6 +5,7 @@
 use super::outbox::{self, GIVES_ONE, ONE_ITEM};
 use super::parts::{FIRST, PartRow, SECOND, part_of};
 use super::taken::{self, Made, NONE, Outcome, WHOLE_IN_TURN, buffer, gather};
+use crate::checks::check;
 use chord_handover::{Part, Taken};
 use std::alloc::Global;
 use std::process::Abort;
@@ -21,7 +22,7 @@ fn buffer_again(rt: &impl Abort, taken: &mut Taken, first: &Part, second: &Part)
         return buffered;
     }
     let first = gather(taken, first);
-    assert!(rt;
+    check!(rt;
         first == Outcome::Made(Made::More),
         "a part that was refused memory is not buffered"
     );
@@ -61,11 +62,11 @@ fn buffer_in_turn(rt: &impl Abort, alloc: Global) -> Buffering {
 #[test]
 fn a_refused_part_is_not_buffered(rt: HostRuntime) {
     let found = buffer_in_turn(&rt, rt.alloc());
-    assert!(rt;
+    check!(&rt;
         found.second == Outcome::Buffered,
         "it is buffered at the second try"
     );
-    assert!(rt;
+    check!(&rt;
         found.first == Outcome::Made(Made::Whole(65)),
         "the first part makes the payload with it"
     );
@@ -120,8 +121,8 @@ fn copy_again(rt: &impl Abort, part: Part) -> Copied {
 #[test]
 fn a_refused_copy_is_made_when_tried_again(rt: HostRuntime) {
     let copied = copy_again(&rt, part_of(&rt, rt.alloc(), FIRST));
-    assert!(rt; copied.has_its_pairs, "a copy has the same pairs");
-    assert!(rt;
+    check!(&rt; copied.has_its_pairs, "a copy has the same pairs");
+    check!(&rt;
         copied.has_a_segment,
         "a copy of the first part has a segment"
     );
@@ -139,7 +140,7 @@ fn make_with_first(rt: &impl Abort, alloc: Global, row: PartRow) -> Outcome {
     drop(taken);
     drop(first);
     drop(second);
-    assert!(rt; buffered == Outcome::Buffered, "the first part is buffered");
+    check!(rt; buffered == Outcome::Buffered, "the first part is buffered");
     made
 }
 
@@ -147,7 +148,7 @@ fn make_with_first(rt: &impl Abort, alloc: Global, row: PartRow) -> Outcome {
 fn parts_of_no_payload_are_unfit_and_need_no_memory(rt: HostRuntime) {
     let second = PartRow { place: 2, ..FIRST };
     let made = make_with_first(&rt, rt.alloc(), second);
-    assert!(rt;
+    check!(&rt;
         made == Outcome::Made(Made::Unfit),
         "parts with the same pairs are unfit, whether or not there is memory"
     );

@@ -3,6 +3,7 @@
 
 use super::CIRCLE;
 use super::parts::{FIRST, PartRow, are_from_zero, pairs_of};
+use crate::checks::check;
 use chord_handover::{Gather, Outbox, Part, Payload, Taken, Verdict};
 use chord_ident::Id;
 use chord_map::{Done, Reply, Request};
@@ -147,10 +148,10 @@ fn look_at_items(alloc: Global) -> Option<Whole> {
 #[test]
 fn an_item_comes_back_whole(rt: HostRuntime) {
     let whole = look_at_items(rt.alloc()).expect(&rt, "memory for two items");
-    assert!(rt;
+    check!(&rt;
         whole.copied,
         "a copy has the segment with its kept call, and the pairs"
     );
-    assert!(rt; whole.got, "so has what the receiver took");
-    assert!(rt; whole.declined, "and what it declined");
+    check!(&rt; whole.got, "so has what the receiver took");
+    check!(&rt; whole.declined, "and what it declined");
 }

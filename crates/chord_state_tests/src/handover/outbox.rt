@@ -1,6 +1,7 @@
 //! Items of the outbox of node 3. Each is the whole circle with no pairs, for node 1.
 
 use super::{CIRCLE, PartShown, empty_payload, show_part};
+use crate::checks::check;
 use chord_handover::{Outbox, OutboxGiveFault, Payload, Ticket, Ungiven};
 use chord_ident::Span;
 use std::alloc::Global;
@@ -22,14 +23,14 @@ pub enum Deed {
     Declined(u64),
 }
 
-#[derive(Clone, Copy, Debug, PartialEq, Eq)]
+#[derive(Clone, Copy, PartialEq, Eq)]
 pub struct PayloadShown {
     pub span: Span,
     pub pairs: usize,
 }
 
 /// What a deed gives.
-#[derive(Clone, Copy, Debug, PartialEq, Eq)]
+#[derive(Clone, Copy, PartialEq, Eq)]
 pub enum Outcome {
     Reserved,
     /// The item has this number.
@@ -43,7 +44,7 @@ pub enum Outcome {
 }
 
 /// The receiver of an item, its number there, and the span of its segment.
-#[derive(Clone, Copy, Debug, PartialEq, Eq)]
+#[derive(Clone, Copy, PartialEq, Eq)]
 pub struct Name {
     pub to: u64,
     pub number: u64,
@@ -51,7 +52,7 @@ pub struct Name {
 }
 
 /// What the outbox shows.
-#[derive(Clone, Copy, Debug, PartialEq, Eq)]
+#[derive(Clone, Copy, PartialEq, Eq)]
 pub struct State {
     pub is_empty: bool,
     pub items: usize,
@@ -100,7 +101,7 @@ fn give_back(rt: &impl Abort, outbox: &mut Outbox, ungiven: Ungiven) -> Outcome 
         return Outcome::NumbersSpent;
     }
     let span = ungiven.payload.segment().span();
-    assert!(rt; span == CIRCLE, "a refused give hands the payload back");
+    check!(rt; span == CIRCLE, "a refused give hands the payload back");
     match outbox.give(1, ungiven.payload) {
         Ok(number) => Outcome::Given(number),
         Err(again) => {
@@ -117,7 +118,7 @@ fn give(rt: &impl Abort, alloc: Global, outbox: &mut Outbox) -> Outcome {
         Ok(number) => Outcome::Given(number),
         Err(ungiven) => {
             let state = state_of(outbox);
-            assert!(rt; state == before, "a refused give changes nothing");
+            check!(rt; state == before, "a refused give changes nothing");
             give_back(rt, outbox, ungiven)
         }
     }
@@ -174,7 +175,7 @@ fn act_again(rt: &impl Abort, alloc: Global, outbox: &mut Outbox, deed: Deed) ->
         return outcome;
     }
     let state = state_of(outbox);
-    assert!(rt; state == before, "what is refused memory changes nothing");
+    check!(rt; state == before, "what is refused memory changes nothing");
     act(rt, alloc, outbox, deed)
 }
 
@@ -191,9 +192,9 @@ fn follow_steps(rt: &impl Abort, alloc: Global, outbox: &mut Outbox, steps: &[St
     for step in steps {
         let rule = step.rule;
         let outcome = act_again(rt, alloc, outbox, step.deed);
-        assert!(rt; outcome == step.outcome, "{rule}: {outcome:?}");
+        check!(rt; outcome == step.outcome, rule);
         let state = state_of(outbox);
-        assert!(rt; state == step.state, "{rule}: {state:?}");
+        check!(rt; state == step.state, rule);
     }
 }
 

@@ -3,6 +3,7 @@
 ghost use Rattle.std.specs.Prelude.{◌≤◌};
 
 use super::{CIRCLE, PartShown, empty_payload, show_part};
+use crate::checks::check;
 use chord_handover::{Part, Ticket, copy_chunk, count_parts};
 use chord_map::{Bytes, Pair};
 use chord_segment::Segment;
@@ -12,7 +13,7 @@ use std::test::Fail;
 
 /// Part `place` of `of` of a handover of node `from`. It has `count` pairs, whose values are the
 /// numbers from `first` on.
-#[derive(Clone, Copy, Debug, PartialEq, Eq)]
+#[derive(Clone, Copy, PartialEq, Eq)]
 pub struct PartRow {
     pub from: u64,
     pub number: u64,
@@ -88,7 +89,7 @@ fn empty_segment(rt: &impl Abort, alloc: Global) -> Box<Segment> {
 
 /// The part of this row, made again if memory was refused.
 pub fn part_of(rt: &impl Abort, alloc: Global, row: PartRow) -> Part {
-    assert!(rt;
+    check!(rt;
         1 <= row.place && row.place <= row.of,
         "parts are counted from 1"
     );
@@ -129,9 +130,9 @@ fn equals(part: &Part, other: Part) -> bool {
 fn compare(rt: &impl Abort, alloc: Global, part: Part) {
     let copy = part.try_copy().expect(rt, "memory for a copy");
     let is_copied = equals(&part, copy);
-    assert!(rt; is_copied, "a part equals its copy");
+    check!(rt; is_copied, "a part equals its copy");
     let is_alike = equals(&part, part_of(rt, alloc, FIRST));
-    assert!(rt; is_alike, "a part equals one made alike");
+    check!(rt; is_alike, "a part equals one made alike");
     for (other, row) in UNEQUAL {
         let is_equal = equals(&part, part_of(rt, alloc, *row));
         assert!(rt; !is_equal, "a part does not equal one with {other}");
@@ -162,18 +163,18 @@ fn only_part(rt: &impl Abort, alloc: Global) -> PartShown {
 #[test]
 fn the_only_part_of_an_empty_payload_has_its_segment(rt: HostRuntime) {
     let part = only_part(&rt, rt.alloc());
-    assert!(rt;
+    check!(&rt;
         part.ticket == TICKET,
         "a part has the name of its handover"
     );
-    assert!(rt; part.place == 1, "it is the first part");
-    assert!(rt; part.of == 1, "it is the only part");
-    assert!(rt; part.span == Some(CIRCLE), "it has the segment");
-    assert!(rt; part.pairs == 0, "it has no pairs");
+    check!(&rt; part.place == 1, "it is the first part");
+    check!(&rt; part.of == 1, "it is the only part");
+    check!(&rt; part.span == Some(CIRCLE), "it has the segment");
+    check!(&rt; part.pairs == 0, "it has no pairs");
 }
 
 /// How many parts pairs make, and how many pairs each of the first three parts has.
-#[derive(Clone, Copy, Debug, PartialEq, Eq)]
+#[derive(Clone, Copy, PartialEq, Eq)]
 struct Chunks {
     parts: u64,
     pairs: [usize; 3],
@@ -226,7 +227,7 @@ const CHUNKS: &[(u64, Chunks)] = &[
 fn pairs_go_64_to_a_part(rt: HostRuntime) -> Result<(), Fail> {
     for (count, wanted) in CHUNKS {
         let chunks = chunks_of(rt.alloc(), *count)?;
-        assert!(rt; chunks == *wanted, "{count} pairs: {chunks:?}");
+        assert!(rt; chunks == *wanted, "{count} pairs");
     }
     Ok(())
 }
@@ -239,6 +240,6 @@ fn a_part_begins_behind_the_one_before(rt: HostRuntime) -> Result<(), Fail> {
     let is_last = second.first() == pairs.last();
     drop(second);
     drop(pairs);
-    assert!(rt; is_last, "the second part has the 65th pair");
+    check!(&rt; is_last, "the second part has the 65th pair");
     Ok(())
 }

@@ -2,6 +2,7 @@
 
 use super::CIRCLE;
 use super::parts::{FIRST, PartRow, SECOND, are_from_zero, part_of};
+use crate::checks::check;
 use chord_handover::{Gather, Part, Payload, Taken, Verdict};
 use std::alloc::Global;
 use std::process::Abort;
@@ -23,7 +24,7 @@ pub enum Deed {
 }
 
 /// What a part makes with the buffered ones.
-#[derive(Clone, Copy, Debug, PartialEq, Eq)]
+#[derive(Clone, Copy, PartialEq, Eq)]
 pub enum Made {
     More,
     Unfit,
@@ -33,7 +34,7 @@ pub enum Made {
 }
 
 /// What a deed gives.
-#[derive(Clone, Copy, Debug, PartialEq, Eq)]
+#[derive(Clone, Copy, PartialEq, Eq)]
 pub enum Outcome {
     Judged(Verdict),
     Reserved,
@@ -47,7 +48,7 @@ pub enum Outcome {
 }
 
 /// The numbers of the last handovers that were taken from nodes 0, 1 and 2.
-#[derive(Clone, Copy, Debug, PartialEq, Eq)]
+#[derive(Clone, Copy, PartialEq, Eq)]
 pub struct Last {
     pub of_0: u64,
     pub of_1: u64,
@@ -179,7 +180,7 @@ fn act_again(rt: &impl Abort, alloc: Global, taken: &mut Taken, deed: Deed) -> O
         return outcome;
     }
     let last = last_of(taken);
-    assert!(rt; last == before, "what is refused memory takes nothing");
+    check!(rt; last == before, "what is refused memory takes nothing");
     act(rt, alloc, taken, deed)
 }
 
@@ -189,9 +190,9 @@ pub fn follow(rt: &impl Abort, alloc: Global, steps: &[Step]) {
     for step in steps {
         let rule = step.rule;
         let outcome = act_again(rt, alloc, &mut taken, step.deed);
-        assert!(rt; outcome == step.outcome, "{rule}: {outcome:?}");
+        check!(rt; outcome == step.outcome, rule);
         let last = last_of(&taken);
-        assert!(rt; last == step.last, "{rule}: {last:?}");
+        check!(rt; last == step.last, rule);
     }
     drop(taken);
 }

@@ -1,4 +1,5 @@
 use super::samples::equal;
+use crate::checks::check;
 use chord_map::Bytes;
 use std::alloc::Global;
 use std::cmp::Ordering;
@@ -28,7 +29,7 @@ fn bytes_compare_one_by_one(rt: HostRuntime) {
         compared(alloc, &[127], &[128]),
     ];
     let same = Some((Ordering::Equal, true));
-    assert!(rt; found == [same, less, Some((Ordering::Greater, false)), less]);
+    check!(&rt; found == [same, less, Some((Ordering::Greater, false)), less]);
 }
 
 // Sixteen bytes are stored inline, more in a block of 63, 127 or 255, and more than that in a
@@ -48,7 +49,7 @@ fn short_and_long_bytes_compare(rt: HostRuntime) {
         compared(alloc, &[7; 64], &[7; 64]),
     ];
     let same = Some((Ordering::Equal, true));
-    assert!(rt; found == [less, less, less, less, less, less, same, same]);
+    check!(&rt; found == [less, less, less, less, less, less, same, same]);
 }
 
 // Whether the copy was made and has these bytes.
@@ -84,7 +85,7 @@ fn bytes_are_the_same_wherever_they_stand(rt: HostRuntime) {
         are_all_equal(alloc, &[7; 256]),
         are_all_equal(alloc, &[7; 4096]),
     ];
-    assert!(rt; are_equal == [Some(true); 9]);
+    check!(&rt; are_equal == [Some(true); 9]);
 }
 
 // Whether a copy of a copy has these bytes once both that it was made of are dropped.
@@ -109,5 +110,5 @@ fn a_copy_outlives_what_it_was_made_of(rt: HostRuntime) {
         outlives(alloc, &[7; 255]),
         outlives(alloc, &[7; 256]),
     ];
-    assert!(rt; found == [Some(true); 6]);
+    check!(&rt; found == [Some(true); 6]);
 }

@@ -1,4 +1,5 @@
 use super::samples::equal;
+use crate::checks::check;
 use chord_map::{Done, Reply, Request, copy_dones, find_done};
 use std::alloc::{AllocError, Global};
 
@@ -50,7 +51,7 @@ fn a_call_is_found_by_caller_and_number(rt: HostRuntime) {
         number_found(alloc, 1, 3),
         number_found(alloc, 2, 1),
     ];
-    assert!(rt; found == [Some(2), None, None]);
+    check!(&rt; found == [Some(2), None, None]);
 }
 
 /// Whether copies of the two are equal to them.
@@ -80,5 +81,5 @@ fn calls_are_copied(rt: HostRuntime) {
         copy_is_equal(alloc),
         others_are_equal(alloc),
     ];
-    assert!(rt; are_equal == [Some(true), Some(true), Some(false)]);
+    check!(&rt; are_equal == [Some(true), Some(true), Some(false)]);
 }

@@ -1,3 +1,4 @@
+use crate::checks::check;
 use chord_map::{Pair, PairList, Values};
 use std::alloc::AllocError;
 
@@ -19,7 +20,7 @@ fn keeps_a_pair_once(rt: HostRuntime) {
     let are_put = put_three(&mut pairs).is_ok();
     let are_counted = (pairs.len() == 3) & (pairs.count_under(b"a") == 2);
     let has_one = pairs.contains(b"b", b"x") & !pairs.contains(b"b", b"y");
-    assert!(rt; are_put & are_counted & has_one);
+    check!(&rt; are_put & are_counted & has_one);
     drop(pairs);
 }
 
@@ -49,7 +50,7 @@ fn are_in_order(pairs: &[Pair]) -> bool {
 fn keeps_pairs_in_order(rt: HostRuntime) {
     let mut pairs = PairList::new(rt.alloc());
     let are_put = put_three(&mut pairs).is_ok();
-    assert!(rt; are_put & are_in_order(pairs.as_slice()));
+    check!(&rt; are_put & are_in_order(pairs.as_slice()));
     drop(pairs);
 }
 
@@ -73,7 +74,7 @@ fn copies_the_values_of_a_key(rt: HostRuntime) {
         Err(_) => false,
     };
     drop(pairs);
-    assert!(rt; are_put & is_copied);
+    check!(&rt; are_put & is_copied);
 }
 
 #[test]
@@ -82,7 +83,7 @@ fn removes_a_pair(rt: HostRuntime) {
     let are_put = put_three(&mut pairs).is_ok();
     let was_there = pairs.remove(b"a", b"y");
     let is_there = pairs.remove(b"a", b"y");
-    assert!(rt; are_put & was_there & !is_there & (pairs.len() == 2));
+    check!(&rt; are_put & was_there & !is_there & (pairs.len() == 2));
     drop(pairs);
 }
 
@@ -91,7 +92,7 @@ fn retains_pairs(rt: HostRuntime) {
     let mut pairs = PairList::new(rt.alloc());
     let are_put = put_three(&mut pairs).is_ok();
     pairs.retain(|pair| pair.key.as_slice() == b"b".as_slice());
-    assert!(rt; are_put & (pairs.len() == 1) & pairs.contains(b"b", b"x"));
+    check!(&rt; are_put & (pairs.len() == 1) & pairs.contains(b"b", b"x"));
     drop(pairs);
 }
 
@@ -125,6 +126,6 @@ fn a_refused_growth_leaves_the_pairs(rt: HostRuntime) {
     for n in 0..12 {
         assert!(rt; adds_at_last(&mut pairs, n), "at {n}");
     }
-    assert!(rt; ends_at(&pairs, 12));
+    check!(&rt; ends_at(&pairs, 12));
     drop(pairs);
 }

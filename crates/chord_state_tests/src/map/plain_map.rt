@@ -1,4 +1,5 @@
 use super::samples::{equal, one_value};
+use crate::checks::check;
 use chord_map::{Bytes, PlainMap, Reply, Request, SharedValues};
 use std::alloc::{AllocError, Global};
 
@@ -66,7 +67,7 @@ fn inserts_retrieves_and_removes(rt: HostRuntime) {
         removes(alloc, &mut map, Reply::Absent),
     ];
     drop(map);
-    assert!(rt; are_told == [Some(true); 6]);
+    check!(&rt; are_told == [Some(true); 6]);
 }
 
 // Whether this is the reply to an insert of the value under `a`.
@@ -106,7 +107,7 @@ fn fills_a_set(rt: HostRuntime) {
         inserts_into_set(alloc, &mut map, b"1000", &Reply::Added),
     ];
     drop(map);
-    assert!(rt; are_told == [Some(true); 5]);
+    check!(&rt; are_told == [Some(true); 5]);
 }
 
 // The request to add the value [n], tried again if memory was refused.
@@ -179,6 +180,6 @@ fn a_refused_growth_leaves_the_map(rt: HostRuntime) {
     for n in 0..12 {
         assert!(rt; adds_at_last(alloc, &mut map, n), "at {n}");
     }
-    assert!(rt; ends_at(alloc, &mut map, 12));
+    check!(&rt; ends_at(alloc, &mut map, 12));
     drop(map);
 }

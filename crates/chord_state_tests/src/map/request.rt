@@ -1,4 +1,5 @@
 use super::samples::{equal, one_value};
+use crate::checks::check;
 use chord_map::{Reply, Request, RequestFault};
 use std::alloc::{AllocError, Global};
 
@@ -22,7 +23,7 @@ fn keys_have_limits(rt: HostRuntime) {
     ];
     let empty = Some(Err(RequestFault::KeyEmpty));
     let fits = Some(Ok(()));
-    assert!(rt; found == [empty, fits, fits, Some(Err(RequestFault::KeyLong))]);
+    check!(&rt; found == [empty, fits, fits, Some(Err(RequestFault::KeyLong))]);
 }
 
 #[test]
@@ -38,7 +39,7 @@ fn values_have_limits(rt: HostRuntime) {
     ];
     let fits = Some(Ok(()));
     let long = Some(Err(RequestFault::ValueLong));
-    assert!(rt; found == [fits, fits, long, long, Some(Err(RequestFault::KeyEmpty))]);
+    check!(&rt; found == [fits, fits, long, long, Some(Err(RequestFault::KeyEmpty))]);
 }
 
 /// Whether the fault has this text.
@@ -57,7 +58,7 @@ fn tells_its_fault(rt: HostRuntime) {
             "the value has more than 4096 bytes",
         ),
     ] {
-        assert!(rt; reads(rt.alloc(), fault, text) == Some(true), "{text}");
+        check!(&rt; reads(rt.alloc(), fault, text) == Some(true), text);
     }
 }
 
@@ -89,7 +90,7 @@ fn copies(rt: HostRuntime) {
         is_its_copy(Request::retrieve(alloc, b"abc")),
         is_its_copy(Request::remove(alloc, b"abc", b"x")),
     ];
-    assert!(rt; are_copies == [Some(true); 3]);
+    check!(&rt; are_copies == [Some(true); 3]);
 }
 
 #[test]
@@ -104,7 +105,7 @@ fn compares(rt: HostRuntime) {
         is_insert(alloc, Request::retrieve(alloc, b"abc")),
         equal(retrieve, Request::retrieve(alloc, b"ab").ok()),
     ];
-    assert!(rt; are_equal == [is, is_not, is_not, is_not, is_not]);
+    check!(&rt; are_equal == [is, is_not, is_not, is_not, is_not]);
 }
 
 #[test]
@@ -115,7 +116,7 @@ fn names_its_key_and_value(rt: HostRuntime) {
         names(Request::remove(alloc, b"abc", b"x"), b"abc", b"x"),
         names(Request::retrieve(alloc, b"abc"), b"abc", b""),
     ];
-    assert!(rt; are_named == [Some(true); 3]);
+    check!(&rt; are_named == [Some(true); 3]);
 }
 
 /// Whether the reply fits the request.
@@ -155,8 +156,8 @@ fn knows_the_replies_of_its_kind(rt: HostRuntime) {
     ];
     let of_insert = [is, is_not, is_not];
     let of_remove = [is_not, is_not, is];
-    assert!(rt; found == [of_insert, of_insert, of_insert, of_remove, of_remove]);
-    assert!(rt; fitting_values(alloc) == Some([is_not, is, is_not]));
+    check!(&rt; found == [of_insert, of_insert, of_insert, of_remove, of_remove]);
+    check!(&rt; fitting_values(alloc) == Some([is_not, is, is_not]));
 }
 
 /// Whether the reply is equal to the one with the value x.
@@ -172,5 +173,5 @@ fn replies_are_compared(rt: HostRuntime) {
         is_x(alloc, one_value(alloc, b"y").ok()),
         is_x(alloc, Some(Reply::Added)),
     ];
-    assert!(rt; are_x == [Some(true), Some(false), Some(false)]);
+    check!(&rt; are_x == [Some(true), Some(false), Some(false)]);
 }

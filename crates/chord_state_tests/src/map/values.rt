@@ -1,4 +1,5 @@
 use super::samples::equal;
+use crate::checks::check;
 use chord_map::{Bytes, Values};
 use std::alloc::{AllocError, Global};
 
@@ -40,7 +41,7 @@ fn holds_values_in_the_order_given(rt: HostRuntime) {
     for letters in [b"".as_slice(), b"x", b"xyz"] {
         let mut values = Values::new(alloc);
         let is_filled = fill(alloc, &mut values, letters).is_ok();
-        assert!(rt; is_filled & end_as(values, letters));
+        check!(&rt; is_filled & end_as(values, letters));
     }
 }
 
@@ -58,7 +59,7 @@ fn a_value_goes_between_two(rt: HostRuntime) {
     let mut values = Values::new(alloc);
     let is_filled = fill(alloc, &mut values, b"xz").is_ok();
     let is_put = put(&mut values, 1, alloc, b'y').is_ok();
-    assert!(rt; is_filled & is_put & end_as(values, b"xyz"));
+    check!(&rt; is_filled & is_put & end_as(values, b"xyz"));
 }
 
 #[test]
@@ -67,7 +68,7 @@ fn a_value_goes_before_the_only_one(rt: HostRuntime) {
     let mut values = Values::new(alloc);
     let is_filled = fill(alloc, &mut values, b"z").is_ok();
     let is_put = put(&mut values, 0, alloc, b'y').is_ok();
-    assert!(rt; is_filled & is_put & end_as(values, b"yz"));
+    check!(&rt; is_filled & is_put & end_as(values, b"yz"));
 }
 
 // Whether the value removed at the index `place` is that of the letter.
@@ -87,7 +88,7 @@ fn a_value_is_taken_out(rt: HostRuntime) {
     let mut values = Values::new(alloc);
     let is_filled = fill(alloc, &mut values, b"xyz").is_ok();
     let is_taken = takes(&mut values, 1, b'y');
-    assert!(rt; is_filled & is_taken & end_as(values, b"xz"));
+    check!(&rt; is_filled & is_taken & end_as(values, b"xz"));
 }
 
 #[test]
@@ -97,7 +98,7 @@ fn the_last_of_two_comes_out(rt: HostRuntime) {
     let is_filled = fill(alloc, &mut values, b"xy").is_ok();
     let is_first_taken = takes(&mut values, 0, b'x') & are_of(&values, b"y");
     let is_last_taken = takes(&mut values, 0, b'y');
-    assert!(rt; is_filled & is_first_taken & is_last_taken & end_as(values, b""));
+    check!(&rt; is_filled & is_first_taken & is_last_taken & end_as(values, b""));
 }
 
 #[test]
@@ -106,7 +107,7 @@ fn the_only_value_comes_out(rt: HostRuntime) {
     let mut values = Values::new(alloc);
     let is_filled = fill(alloc, &mut values, b"x").is_ok();
     let is_taken = takes(&mut values, 0, b'x');
-    assert!(rt; is_filled & is_taken & end_as(values, b""));
+    check!(&rt; is_filled & is_taken & end_as(values, b""));
 }
 
 // A value for each letter, in the order given.
@@ -134,7 +135,7 @@ fn a_copy_is_equal(rt: HostRuntime) {
     let alloc = rt.alloc();
     for letters in [b"".as_slice(), b"x", b"xyz"] {
         let are_equal = copy_equals(alloc, letters, b"xz");
-        assert!(rt; are_equal == Some([Some(true), Some(false)]));
+        check!(&rt; are_equal == Some([Some(true), Some(false)]));
     }
 }
 
@@ -160,7 +161,7 @@ fn copies_of_a_replys_values_are_equal(rt: HostRuntime) {
     let alloc = rt.alloc();
     for letters in [b"".as_slice(), b"x", b"xyz"] {
         let seen = shared_equal(alloc, letters, b"xz");
-        assert!(rt; seen == Some((letters.len(), [Some(true), Some(false)])));
+        check!(&rt; seen == Some((letters.len(), [Some(true), Some(false)])));
     }
 }
 
@@ -173,7 +174,7 @@ fn bytes_are_copied(alloc: Global) -> Option<bool> {
 
 #[test]
 fn copies_bytes(rt: HostRuntime) {
-    assert!(rt; bytes_are_copied(rt.alloc()) == Some(true));
+    check!(&rt; bytes_are_copied(rt.alloc()) == Some(true));
 }
 
 // Whether the value of the letter is added, with memory for it.
@@ -204,7 +205,7 @@ fn a_refused_push_leaves_the_values(rt: HostRuntime) {
     let alloc = rt.alloc();
     let mut values = Values::new(alloc);
     let are_pushed = push_each(alloc, &mut values, letters);
-    assert!(rt; are_pushed & end_as(values, letters));
+    check!(&rt; are_pushed & end_as(values, letters));
 }
 
 // Whether each letter is inserted first, from the last on, as `push_each` adds each.
@@ -225,5 +226,5 @@ fn a_refused_insert_leaves_the_values(rt: HostRuntime) {
     let alloc = rt.alloc();
     let mut values = Values::new(alloc);
     let are_put = put_each_first(alloc, &mut values, letters);
-    assert!(rt; are_put & end_as(values, letters));
+    check!(&rt; are_put & end_as(values, letters));
 }

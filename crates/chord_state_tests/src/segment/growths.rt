@@ -2,6 +2,7 @@
 //! nothing is refused; the tests are also run with each growth refused in turn.
 
 use super::{A, B, added, equals, keep, keeps, kept, one, span};
+use crate::checks::check;
 use chord_ident::Id;
 use chord_map::Done;
 use chord_segment::{CutFault, Segment, SegmentJoinFault, Uncut, Unjoined};
@@ -40,7 +41,7 @@ fn a_refused_reserve_or_copy(rt: HostRuntime) -> Result<(), Fail> {
     let before = kept_one(rt.alloc())?;
     let is_same = stays_the_same(&before);
     drop(before);
-    assert!(rt; is_same == Some(true));
+    check!(&rt; is_same == Some(true));
     Ok(())
 }
 
@@ -73,7 +74,7 @@ fn a_refused_append_hands_the_call_back(rt: HostRuntime) -> Result<(), Fail> {
     let mut segment = Segment::empty(rt.alloc(), span(A, A));
     let is_kept = keeps_in_the_end(&mut segment, done);
     drop(segment);
-    assert!(rt; is_kept);
+    check!(&rt; is_kept);
     Ok(())
 }
 
@@ -134,6 +135,6 @@ fn a_refused_cut_or_join_hands_all_back(rt: HostRuntime) -> Result<(), Fail> {
     let segment = kept_one(rt.alloc())?;
     let is_same = is_the_same_when_joined(&segment);
     drop(segment);
-    assert!(rt; is_same == Some(true));
+    check!(&rt; is_same == Some(true));
     Ok(())
 }

@@ -1,6 +1,7 @@
 //! Segments that are cut and joined where they stand.
 
 use super::{A, B, C, Found, Shape, WHOLE, shape_of, span, with_floors};
+use crate::checks::check;
 use chord_ident::{Id, Span};
 use chord_segment::{CutFault, Segment, SegmentJoinFault};
 use std::alloc::{AllocError, Global};
@@ -36,7 +37,7 @@ const EMPTIED: Shape = Shape {
 };
 
 /// What two segments are, and what made them so.
-#[derive(Clone, Copy, Debug, PartialEq, Eq)]
+#[derive(Clone, Copy, PartialEq, Eq)]
 struct Two<F> {
     done: Result<(), F>,
     first: Shape,
@@ -64,14 +65,14 @@ fn a_part_is_split_off_and_absorbed_again(rt: HostRuntime) -> Result<(), Fail> {
     let second = second.expect(&rt, "a cut at B, and memory for it");
     let behind = shape_of(&second);
     let joined = absorb(segment, second);
-    assert!(rt; first == BEFORE, "the segment becomes the first part");
-    assert!(rt; behind == BEHIND, "the second part is split off");
+    check!(&rt; first == BEFORE, "the segment becomes the first part");
+    check!(&rt; behind == BEHIND, "the second part is split off");
     let wanted = Two {
         done: Ok(()),
         first: WHOLE,
         second: EMPTIED,
     };
-    assert!(rt;
+    check!(&rt;
         joined == wanted,
         "joined again it is whole, and the other is empty"
     );
@@ -90,11 +91,11 @@ fn cut_at_its_end(alloc: Global) -> Result<(Option<CutFault>, Shape), AllocError
 #[test]
 fn a_refused_cut_or_join_changes_nothing(rt: HostRuntime) -> Result<(), Fail> {
     let (fault, shape) = cut_at_its_end(rt.alloc())?;
-    assert!(rt;
+    check!(&rt;
         fault == Some(CutFault::NotInside),
         "nothing is behind the end"
     );
-    assert!(rt; shape == WHOLE, "a refused cut leaves the segment");
+    check!(&rt; shape == WHOLE, "a refused cut leaves the segment");
     let first = with_floors(rt.alloc())?;
     let other = Segment::empty(rt.alloc(), span(B, C));
     let before = shape_of(&other);
@@ -104,6 +105,6 @@ fn a_refused_cut_or_join_changes_nothing(rt: HostRuntime) -> Result<(), Fail> {
         first: WHOLE,
         second: before,
     };
-    assert!(rt; apart == wanted, "a refused join leaves both");
+    check!(&rt; apart == wanted, "a refused join leaves both");
     Ok(())
 }

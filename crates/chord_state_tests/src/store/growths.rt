@@ -3,6 +3,7 @@
 ghost use Rattle.std.specs.Prelude.{◌≡◌, []};
 
 use super::{noted, put_list};
+use crate::checks::check;
 use chord_ident::{Id, Span};
 use chord_map::{Bytes, Pair, PairList, Values};
 use chord_store::{CappedStore, EntryStore, Inserted, ListStore, StoreFault, TreeStore};
@@ -200,11 +201,11 @@ fn refuses_growths<S: EntryStore>(rt: &impl Abort, alloc: Global, store: S)
     requires { S.content store ≡ [] }
 {
     let mut store = store;
-    assert!(rt; takes_list(alloc, &mut store) & has_these(alloc, &store, ALL));
+    check!(rt; takes_list(alloc, &mut store) & has_these(alloc, &store, ALL));
     let id = Id::new(7);
     store.take_out(&Span::new(id, id));
     let are_put = put_all_in_turn(rt, alloc, &mut store).is_ok();
-    assert!(rt; are_put & has_these(alloc, &store, ALL) & has_values(alloc, &store));
+    check!(rt; are_put & has_these(alloc, &store, ALL) & has_values(alloc, &store));
     drop(store);
 }
 

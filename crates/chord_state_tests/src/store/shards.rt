@@ -2,6 +2,7 @@
 ghost use Rattle.std.specs.Prelude.{◌<◌};
 
 use super::{drop_what_was_copied, fill_a_set, move_a_span};
+use crate::checks::check;
 use chord_ident::{Id, Span};
 use chord_map::{Bytes, Pair};
 use chord_store::{
@@ -92,7 +93,7 @@ fn spans_agree<S: EntryStore, T: EntryStore>(
     list: T,
 ) -> Result<(), AllocError> {
     let (mut shards, mut list) = (shards, list);
-    assert!(rt; fill(alloc, &mut shards)? & fill(alloc, &mut list)?);
+    check!(rt; fill(alloc, &mut shards)? & fill(alloc, &mut list)?);
     for n in 0..KEYS {
         for m in 0..KEYS {
             let agree = copies_agree(alloc, &shards, &list, between(n, m));
@@ -176,7 +177,7 @@ fn is_cut_by_pairs<S: EntryStore>(
 fn shards_are_cut_by_their_pairs(rt: HostRuntime) -> Result<(), Fail> {
     let alloc = rt.alloc();
     let tree = TreeStore::with_shards(alloc, 3);
-    assert!(&rt; is_cut_by_pairs(alloc, tree, KEYS, &[1, 4, 15, 100])?);
+    check!(&rt; is_cut_by_pairs(alloc, tree, KEYS, &[1, 4, 15, 100])?);
     Ok(())
 }
 
@@ -188,10 +189,10 @@ fn each_kind_is_cut_by_its_pairs(rt: HostRuntime) -> Result<(), Fail> {
     let list = ListStore::new(alloc);
     let capped = CappedStore::new(alloc, 100);
     let noted = NotedStore::new(alloc, note);
-    assert!(&rt; is_cut_by_pairs(alloc, list, 1, &[3, 100])?, "a list");
-    assert!(&rt; is_cut_by_pairs(alloc, capped, 1, &[3])?, "a capped store");
-    assert!(&rt; is_cut_by_pairs(alloc, noted, 1, &[3])?, "a noted store");
-    assert!(&rt; is_cut_by_pairs(alloc, boxed, 2, &[3])?, "a box");
+    check!(&rt; is_cut_by_pairs(alloc, list, 1, &[3, 100])?, "a list");
+    check!(&rt; is_cut_by_pairs(alloc, capped, 1, &[3])?, "a capped store");
+    check!(&rt; is_cut_by_pairs(alloc, noted, 1, &[3])?, "a noted store");
+    check!(&rt; is_cut_by_pairs(alloc, boxed, 2, &[3])?, "a box");
     Ok(())
 }
 

@@ -1,5 +1,6 @@
 //! A session whose input or output fails.
 
+use crate::checks::check;
 use crate::console::one_pair;
 use chord_app_text::{Fault, Finish};
 use chord_app_world::world;
@@ -49,12 +50,12 @@ fn fails_to_write(alloc: Global) -> Result<Finish, AllocError> {
 #[test]
 fn failures_of_input_and_output(rt: HostRuntime) -> Result<(), Fail> {
     let read = fails_to_read(rt.alloc())?;
-    assert!(rt;
+    check!(&rt;
         read == (Finish::Fault(Fault::Read), true),
         "the lines before a failed read are done"
     );
     let written = fails_to_write(rt.alloc())?;
-    assert!(rt;
+    check!(&rt;
         written == Finish::Fault(Fault::Write),
         "a line that is not written ends the session"
     );

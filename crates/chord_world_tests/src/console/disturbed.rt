@@ -1,6 +1,7 @@
 //! A message of each kind is lost, comes again, late, or out of order: each line with what it must
 //! write.
 
+use crate::checks::check;
 use crate::console::rows::{Row, THREE, first_wrong};
 use crate::console::worlds::{over_two, sixty_five_values};
 use crate::console::{DONE, Ran};
@@ -323,5 +324,5 @@ fn over_turned_parts(alloc: Global) -> Option<Ran> {
 
 #[test]
 fn parts_come_in_the_other_order(rt: HostRuntime) {
-    assert!(rt; over_turned_parts(rt.alloc()) == DONE);
+    check!(&rt; over_turned_parts(rt.alloc()) == DONE);
 }

@@ -1,6 +1,7 @@
 //! Lines of the console beside what they write: refusals by name, and steps that other scripts
 //! leave out.
 
+use crate::checks::check;
 use crate::console::Ran;
 use crate::console::rows::{Row, THREE, first_wrong, over};
 use chord_app_text::Finish;
@@ -109,17 +110,17 @@ fn asks_long(alloc: Global, key: usize, value: usize, writes: &str) -> Result<Ra
 fn keys_and_values_have_limits(rt: HostRuntime) -> Result<(), Fail> {
     let alloc = rt.alloc();
     let longest = asks_long(alloc, 255, 4096, "message 0\n")?;
-    assert!(rt;
+    check!(&rt;
         longest == (Finish::Done, true),
         "a key of 255 bytes with a value of 4,096 is taken"
     );
     let key = asks_long(alloc, 256, 1, "refused 9 KeyLong\n")?;
-    assert!(rt;
+    check!(&rt;
         key == (Finish::Done, true),
         "a key of 256 bytes is too long"
     );
     let value = asks_long(alloc, 1, 4097, "refused 9 ValueLong\n")?;
-    assert!(rt;
+    check!(&rt;
         value == (Finish::Done, true),
         "a value of 4,097 bytes is too long"
     );

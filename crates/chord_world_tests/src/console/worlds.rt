@@ -2,6 +2,7 @@
 ghost use Rattle.std.specs.Prelude.{◌≡◌, []};
 ghost use Rattle.std.specs.List.{All};
 
+use crate::checks::check;
 use crate::console::{DONE, Ran, runs};
 use chord_app_world::add_store;
 use chord_store::CappedStore;
@@ -167,7 +168,7 @@ fn sessions_of_two_nodes(rt: HostRuntime) {
         (CRASHED_HOLDER, CRASHED_HOLDER_WRITES),
     ] {
         let ran = over_two(rt.alloc(), u64::MAX, script, wanted);
-        assert!(rt; ran == DONE, "{script}");
+        check!(&rt; ran == DONE, script);
     }
 }
 
@@ -178,7 +179,7 @@ fn receiver_with_a_full_store(rt: HostRuntime) {
         RECEIVER_WITH_A_FULL_STORE,
         RECEIVER_WITH_A_FULL_STORE_WRITES,
     );
-    assert!(rt; over_two(rt.alloc(), 1, script, wanted) == DONE);
+    check!(&rt; over_two(rt.alloc(), 1, script, wanted) == DONE);
 }
 
 const IN_TWO_PARTS: &str = concat!(
@@ -220,5 +221,5 @@ fn over_two_parts(alloc: Global) -> Option<Ran> {
 /// A handover of 65 pairs has two parts; its receiver holds the segment once both have come.
 #[test]
 fn a_handover_in_two_parts(rt: HostRuntime) {
-    assert!(rt; over_two_parts(rt.alloc()) == DONE);
+    check!(&rt; over_two_parts(rt.alloc()) == DONE);
 }

@@ -3,6 +3,7 @@
 ghost use Rattle.std.specs.Prelude.{◌≡◌, [], IfOk};
 ghost use Rattle.std.specs.List.{All};
 
+use crate::checks::check;
 use crate::steps::deeds::{A, B, C, Deed, new_world, steps_of};
 use crate::steps::scripts::{
     DECLINED_HANDOVER, FULL_STORE_AND_A_RETRY, MOVING_KEY, TWO_NOTES, sixty_five_and_two_parts,
@@ -216,25 +217,25 @@ fn disturbs(alloc: Global, room: u64, script: &[Deed]) -> Result<Option<u64>, Al
 
 #[test]
 fn a_moving_key_is_disturbed(rt: HostRuntime) -> Result<(), Fail> {
-    assert!(rt; disturbs(rt.alloc(), u64::MAX, MOVING_KEY)? == Some(20));
+    check!(&rt; disturbs(rt.alloc(), u64::MAX, MOVING_KEY)? == Some(20));
     Ok(())
 }
 
 #[test]
 fn a_full_store_is_disturbed(rt: HostRuntime) -> Result<(), Fail> {
-    assert!(rt; disturbs(rt.alloc(), 1, FULL_STORE_AND_A_RETRY)? == Some(8));
+    check!(&rt; disturbs(rt.alloc(), 1, FULL_STORE_AND_A_RETRY)? == Some(8));
     Ok(())
 }
 
 #[test]
 fn a_declined_handover_is_disturbed(rt: HostRuntime) -> Result<(), Fail> {
-    assert!(rt; disturbs(rt.alloc(), u64::MAX, DECLINED_HANDOVER)? == Some(8));
+    check!(&rt; disturbs(rt.alloc(), u64::MAX, DECLINED_HANDOVER)? == Some(8));
     Ok(())
 }
 
 #[test]
 fn notes_are_disturbed(rt: HostRuntime) -> Result<(), Fail> {
-    assert!(rt; disturbs(rt.alloc(), u64::MAX, TWO_NOTES)? == Some(9));
+    check!(&rt; disturbs(rt.alloc(), u64::MAX, TWO_NOTES)? == Some(9));
     Ok(())
 }
 
@@ -242,6 +243,6 @@ fn notes_are_disturbed(rt: HostRuntime) -> Result<(), Fail> {
 #[test]
 fn two_parts_are_disturbed(rt: HostRuntime) -> Result<(), Fail> {
     let script = sixty_five_and_two_parts(rt.alloc())?;
-    assert!(rt; disturbs_from(rt.alloc(), u64::MAX, &script, 197)? == Some(8));
+    check!(&rt; disturbs_from(rt.alloc(), u64::MAX, &script, 197)? == Some(8));
     Ok(())
 }

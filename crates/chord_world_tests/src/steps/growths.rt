@@ -4,6 +4,7 @@
 ghost use Rattle.std.specs.Prelude.{◌≡◌, [], IfOk};
 ghost use Rattle.std.specs.List.{All};
 
+use crate::checks::check;
 use crate::steps::deeds::{A, B, C, Deed, new_world, steps_of};
 use crate::steps::disturbed::two_stores;
 use crate::steps::scripts::{
@@ -152,7 +153,7 @@ fn a_refused_step_is_done_again(rt: HostRuntime) -> Result<(), Fail> {
     let is_done = is_done_again(alloc, &mut world, &mut stores);
     drop(world);
     drop(stores);
-    assert!(rt; is_done == Ok(true));
+    check!(&rt; is_done == Ok(true));
     Ok(())
 }
 
@@ -209,7 +210,7 @@ fn a_key_moves_all_the_same(rt: HostRuntime) -> Result<(), Fail> {
     let moves = moves_a_key(alloc, &mut world, &mut stores);
     drop(world);
     drop(stores);
-    assert!(rt; moves == Ok(true));
+    check!(&rt; moves == Ok(true));
     Ok(())
 }
 
@@ -320,7 +321,7 @@ fn a_handover_in_two_parts(rt: HostRuntime) -> Result<(), Fail> {
     let handed = hands_over(alloc, &mut world, &mut stores);
     drop(world);
     drop(stores);
-    assert!(rt; handed == Ok(true));
+    check!(&rt; handed == Ok(true));
     Ok(())
 }
 
@@ -413,10 +414,10 @@ fn goes_on(
 fn a_refused_step_is_left_out(rt: HostRuntime) {
     let alloc = rt.alloc();
     let moves = goes_on(alloc, u64::MAX, MOVING_KEY, ANSWERS_TO_MOVING_KEY);
-    assert!(rt; moves == Ok(true), "a key moves");
+    check!(&rt; moves == Ok(true), "a key moves");
     let answers = ANSWERS_TO_FULL_STORE_AND_A_RETRY;
     let retries = goes_on(alloc, 1, FULL_STORE_AND_A_RETRY, answers);
-    assert!(rt; retries == Ok(true), "a full store and a retry");
+    check!(&rt; retries == Ok(true), "a full store and a retry");
 }
 
 /// The script of a handover in two parts, made again if memory was refused.
@@ -433,6 +434,6 @@ fn a_refused_step_of_a_handover_is_left_out(rt: HostRuntime) -> Result<(), Fail>
     let alloc = rt.alloc();
     let script = two_parts_at_last(alloc)?;
     let goes_on = goes_on(alloc, u64::MAX, &script, ANSWERS_TO_TWO_PARTS);
-    assert!(rt; goes_on == Ok(true));
+    check!(&rt; goes_on == Ok(true));
     Ok(())
 }

@@ -4,6 +4,7 @@ ghost use Rattle.std.specs.Prelude.{◌≡◌, [], List, IfOk};
 ghost use Rattle.std.specs.List.{All};
 ghost use Rattle.chord_map.specs.declared.pair.Pair.{Pair};
 
+use crate::checks::check;
 use crate::steps::deeds::{A, B, C, Deed, new_world, steps_of};
 use chord_store::ListStore;
 use chord_world::{Outcome, Refusal, StepFault, StepResult, World, run};
@@ -68,7 +69,7 @@ fn a_ring_of_two_is_kept_up(rt: HostRuntime) -> Result<(), Fail> {
     let mut stores = two_lists(alloc)?;
     let mut world = new_world(alloc)?;
     let answers = run(alloc, &mut world, &mut stores, &steps)?;
-    assert!(rt; answers.as_slice() == ANSWERS_OF_TWO);
+    check!(&rt; answers.as_slice() == ANSWERS_OF_TWO);
     world.stands_on_one_ring();
     Ok(())
 }
