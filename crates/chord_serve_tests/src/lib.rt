@@ -1,8 +1,11 @@
-//! The tests of frames, `chord_wire`, and of sessions over them, `chord_session` and `chord_serve`.
+//! The tests of frames, `chord_wire`, and of sessions over them, `chord_session` and `chord_serve`;
+//! and of Redis's protocol, `chord_resp`, and sessions in it, `chord_resp_serve`.
 #![tactic(auto)]
 
 #[cfg(test)]
 mod checks;
+#[cfg(test)]
+mod redis;
 #[cfg(test)]
 mod tests;
 #[cfg(test)]

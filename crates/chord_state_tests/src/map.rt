@@ -2,6 +2,7 @@
 
 mod bytes;
 mod done;
+mod history;
 mod pair_list;
 mod plain_map;
 mod request;

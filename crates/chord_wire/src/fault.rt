@@ -4,42 +4,27 @@ ghost use Rattle.chord_wire.specs.Fault.{out_of_memory, code_number, code_of};
 
 use crate::codes;
 use std::alloc::{AllocError, AllocFailed};
+use std::fmt;
 use thiserror::Error;
 
 /// What is wrong.
 #[derive(Clone, Copy, Debug, PartialEq, Eq, Error)]
 pub enum FaultCode {
-    #[error("bad length")]
     BadLength,
-    #[error("bad version")]
     BadVersion,
-    #[error("bad operation")]
     BadOperation,
-    #[error("bad key")]
     BadKey,
-    #[error("bad value")]
     BadValue,
-    #[error("bytes behind the last field")]
     Trailing,
-    #[error("out of memory")]
     Memory,
-    #[error("the number was another request's")]
     NumberReused,
-    #[error("bad number")]
     BadNumber,
-    #[error("the store is full")]
     Full,
-    #[error("no answer came in time")]
     NoAnswer,
-    #[error("bad floor")]
     BadFloor,
-    #[error("no caller is left for the connection")]
     CallersSpent,
-    #[error("the session is known already")]
     SessionKnown,
-    #[error("no such session is kept")]
     NoSession,
-    #[error("the frame does not belong here")]
     OutOfPlace,
 }
 
@@ -90,6 +75,34 @@ impl FaultCode {
             FaultCode::NoSession => codes::NO_SESSION,
             FaultCode::OutOfPlace => codes::OUT_OF_PLACE,
         }
+    }
+
+    /// What is wrong, in words.
+    fn text(self) -> &'static str {
+        match self {
+            FaultCode::BadLength => "bad length",
+            FaultCode::BadVersion => "bad version",
+            FaultCode::BadOperation => "bad operation",
+            FaultCode::BadKey => "bad key",
+            FaultCode::BadValue => "bad value",
+            FaultCode::Trailing => "bytes behind the last field",
+            FaultCode::Memory => "out of memory",
+            FaultCode::NumberReused => "the number was another request's",
+            FaultCode::BadNumber => "bad number",
+            FaultCode::Full => "the store is full",
+            FaultCode::NoAnswer => "no answer came in time",
+            FaultCode::BadFloor => "bad floor",
+            FaultCode::CallersSpent => "no caller is left for the connection",
+            FaultCode::SessionKnown => "the session is known already",
+            FaultCode::NoSession => "no such session is kept",
+            FaultCode::OutOfPlace => "the frame does not belong here",
+        }
+    }
+}
+
+impl fmt::Display for FaultCode {
+    fn fmt<W: fmt::Write>(&self, f: &mut fmt::Formatter<W>) -> fmt::Result {
+        f.write_str(self.text())
     }
 }
 

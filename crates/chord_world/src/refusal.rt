@@ -9,86 +9,52 @@ use chord_map::RequestFault;
 use chord_node::{CutAtFault, GiveFault, MergeFault, NotStaying, ResendPartFault, RetireFault};
 use chord_ring::{CandidateFault, DropFault, RingFault, StabiliseFault};
 use std::alloc::AllocError;
+use std::fmt;
 use thiserror::Error;
 
 /// Why a step is refused: the first reason that applies, in this order.
 #[derive(Clone, Copy, Debug, PartialEq, Eq, Error)]
 pub enum Refusal {
-    #[error("the first node was created before")]
     AlreadyCreated,
-    #[error("no node was created yet")]
     NotCreated,
-    #[error("no node has this number")]
     NoSuchNode,
-    #[error("no caller has this number")]
     NoSuchCaller,
-    #[error("no message has this number")]
     NoSuchMessage,
-    #[error("the identifier was used before")]
     IdTaken,
-    #[error("there is no store for a node")]
     NoStore,
-    #[error("the ring would not stand without the member")]
     Unsafe,
     /// A node, a caller or the ring refused.
-    #[error(transparent)]
     Step(StepFault),
-    #[error("out of memory")]
     Memory,
 }
 
 /// Why a node, a caller or the ring refused its part of a step.
 #[derive(Clone, Copy, Debug, PartialEq, Eq, Error)]
 pub enum StepFault {
-    #[error("a window has 1 to 16 requests")]
     BadWindow,
-    #[error(transparent)]
     Request(RequestFault),
-    #[error("the window is full")]
     WindowFull,
-    #[error("the numbers are spent")]
     NumbersSpent,
-    #[error("the request is not pending")]
     Idle,
-    #[error("the node crashed")]
     Crashed,
-    #[error("the new node does not lie before the first entry")]
     NotBetween,
-    #[error("the first entry is dead")]
     HeadDead,
-    #[error("the node is not the first entry")]
     NotHead,
-    #[error("the candidate is dead")]
     Dead,
-    #[error("the candidate does not lie before the first entry")]
     NotCloser,
-    #[error("the first entry is live")]
     HeadLive,
-    #[error("there is no other entry")]
     Empty,
-    #[error("the node holds no segment there")]
     NoSegment,
-    #[error("the cut is not inside the segment")]
     NotInside,
-    #[error("the second does not begin where the first ends")]
     NotAdjacent,
-    #[error("the segments meet")]
     Overlap,
-    #[error("a call is kept in both")]
     Twice,
-    #[error("there is no such part")]
     NoPart,
-    #[error("the node does not stay")]
     NotStaying,
-    #[error("the node is not leaving")]
     NotLeaving,
-    #[error("the node holds a segment or hands one over")]
     NotEmpty,
-    #[error("a node has the fingers 1 to 128")]
     BadFinger,
-    #[error("the message is no note")]
     NotNote,
-    #[error("a note is met, not delivered")]
     NeedsMeet,
 }
 
@@ -108,6 +74,73 @@ impl Refusal {
             Refusal::Unsafe => 8,
             Refusal::Step(_) => 9,
             Refusal::Memory => 10,
+        }
+    }
+
+    /// Why, in words; a `Step` has those of its fault.
+    fn text(self) -> &'static str {
+        match self {
+            Refusal::AlreadyCreated => "the first node was created before",
+            Refusal::NotCreated => "no node was created yet",
+            Refusal::NoSuchNode => "no node has this number",
+            Refusal::NoSuchCaller => "no caller has this number",
+            Refusal::NoSuchMessage => "no message has this number",
+            Refusal::IdTaken => "the identifier was used before",
+            Refusal::NoStore => "there is no store for a node",
+            Refusal::Unsafe => "the ring would not stand without the member",
+            Refusal::Step(fault) => fault.text(),
+            Refusal::Memory => "out of memory",
+        }
+    }
+}
+
+impl StepFault {
+    /// Why, in words; a `Request` has those of its fault.
+    fn text(self) -> &'static str {
+        match self {
+            StepFault::BadWindow => "a window has 1 to 16 requests",
+            StepFault::Request(_) => "the request is refused",
+            StepFault::WindowFull => "the window is full",
+            StepFault::NumbersSpent => "the numbers are spent",
+            StepFault::Idle => "the request is not pending",
+            StepFault::Crashed => "the node crashed",
+            StepFault::NotBetween => "the new node does not lie before the first entry",
+            StepFault::HeadDead => "the first entry is dead",
+            StepFault::NotHead => "the node is not the first entry",
+            StepFault::Dead => "the candidate is dead",
+            StepFault::NotCloser => "the candidate does not lie before the first entry",
+            StepFault::HeadLive => "the first entry is live",
+            StepFault::Empty => "there is no other entry",
+            StepFault::NoSegment => "the node holds no segment there",
+            StepFault::NotInside => "the cut is not inside the segment",
+            StepFault::NotAdjacent => "the second does not begin where the first ends",
+            StepFault::Overlap => "the segments meet",
+            StepFault::Twice => "a call is kept in both",
+            StepFault::NoPart => "there is no such part",
+            StepFault::NotStaying => "the node does not stay",
+            StepFault::NotLeaving => "the node is not leaving",
+            StepFault::NotEmpty => "the node holds a segment or hands one over",
+            StepFault::BadFinger => "a node has the fingers 1 to 128",
+            StepFault::NotNote => "the message is no note",
+            StepFault::NeedsMeet => "a note is met, not delivered",
+        }
+    }
+}
+
+impl fmt::Display for StepFault {
+    fn fmt<W: fmt::Write>(&self, f: &mut fmt::Formatter<W>) -> fmt::Result {
+        match self {
+            StepFault::Request(fault) => fmt::Display::fmt(fault, f),
+            _ => f.write_str(self.text()),
+        }
+    }
+}
+
+impl fmt::Display for Refusal {
+    fn fmt<W: fmt::Write>(&self, f: &mut fmt::Formatter<W>) -> fmt::Result {
+        match self {
+            Refusal::Step(fault) => fmt::Display::fmt(fault, f),
+            _ => f.write_str(self.text()),
         }
     }
 }

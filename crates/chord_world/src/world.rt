@@ -14,6 +14,7 @@ use crate::refusal::Refusal;
 use crate::sent::Sent;
 use crate::step::Step;
 use chord_caller::CallerCore;
+use chord_history::History;
 use chord_links::Links;
 use chord_map::Done;
 use chord_node::{Message, Node};
@@ -31,7 +32,7 @@ pub struct World<S: EntryStore> {
     pub(crate) callers: Vec<CallerCore>,
     pub(crate) sent: Vec<Sent>,
     pub(crate) crashed: Vec<bool>,
-    pub(crate) history: Vec<Done>,
+    pub(crate) history: History,
 }
 
 impl<S: EntryStore> Model for World<S> {
@@ -60,7 +61,7 @@ impl<S: EntryStore> World<S> {
             callers: Vec::new(alloc),
             sent: Vec::new(alloc),
             crashed: Vec::new(alloc),
-            history: Vec::new(alloc),
+            history: History::new(alloc),
         }
     }
 
@@ -80,7 +81,7 @@ impl<S: EntryStore> World<S> {
         ensures headline { Headline self.now.world }
     {
         chord_model::laws::headline();
-        self.history.as_slice()
+        self.history.calls()
     }
 
     /// The message that was sent under this number.

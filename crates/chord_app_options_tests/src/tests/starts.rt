@@ -1,5 +1,5 @@
 //! The commands `ask`, `load` and `ring` from their words on, over loopback. Their lines go to the
-//! output of the test itself; `chord_app_ask_tests` compares lines.
+//! output of the test itself; the tests of `ask` compare lines.
 
 use crate::checks::check;
 use chord_app_options::{commands, start_ask, start_load, start_ring};

@@ -4,7 +4,7 @@ use chord_map::{Done, Reply, Request, copy_dones, find_done};
 use std::alloc::{AllocError, Global};
 
 /// The call of this caller and number, which added x under a.
-fn added(alloc: Global, caller: u64, number: u64) -> Result<Done, AllocError> {
+pub fn added(alloc: Global, caller: u64, number: u64) -> Result<Done, AllocError> {
     Ok(Done {
         caller,
         number,

@@ -1,5 +1,5 @@
 //! Delivering messages.
-ghost use Rattle.std.specs.Prelude.{◌≡◌, ◌≢◌, ◌<◌, Some, [], length, slice_get};
+ghost use Rattle.std.specs.Prelude.{◌≡◌, ◌≢◌, ◌<◌, Some, [], length, slice_get, true};
 ghost use Rattle.std.specs.Vec.{vec_len, vec_capacity};
 ghost use Rattle.chord_caller.specs.declared.told.Told.{Told as ToldOf};
 ghost use Rattle.chord_caller.specs.declared.ask.Ask.{Ask as AskOf};
@@ -17,6 +17,7 @@ use crate::sent::Sent;
 use crate::steps::outgoing::push_message;
 use crate::world::World;
 use chord_caller::{Ask, CallerCore, Heard, TakeFault, Told};
+use chord_history::History;
 use chord_map::Done;
 use chord_node::{Answered, Message, Node};
 use chord_store::EntryStore;
@@ -85,12 +86,12 @@ fn post(sent: &mut Vec<Sent>, caller: u64, number: u64, answered: Answered) -> O
 }
 
 /// Adds the executed call to the history, if there is one.
-fn add_done(history: &mut Vec<Done>, done: Option<Done>)
-    requires { vec_len history.old < vec_capacity history.old }
-    ensures { history.new.items ≡ with_one history.old.items done }
+fn add_done(history: &mut History, done: Option<Done>)
+    requires { history.old.has_room ≡ true }
+    ensures { history.new.calls ≡ with_one history.old.calls done }
 {
     if let Some(done) = done {
-        history.push_reserved(done);
+        history.add(done);
     }
 }
 
@@ -99,16 +100,16 @@ fn add_done(history: &mut Vec<Done>, done: Option<Done>)
 fn answer_call<S: EntryStore>(
     nodes: &mut Vec<Node<S>>,
     sent: &mut Vec<Sent>,
-    history: &mut Vec<Done>,
+    history: &mut History,
     place: usize,
     to: usize,
 ) -> Result<Outcome, AllocError>
     requires ask { (ask : AskOf) × (slice_get (messages_of sent.old.items) place ≡ Some (AskMessage ask)) }
     requires to { to < length nodes.old.items }
-    ensures { AnswersCall place to nodes.old.items (messages_of sent.old.items) (targets_of sent.old.items) history.old.items result nodes.new.items (messages_of sent.new.items) (targets_of sent.new.items) history.new.items }
+    ensures { AnswersCall place to nodes.old.items (messages_of sent.old.items) (targets_of sent.old.items) history.old.calls result nodes.new.items (messages_of sent.new.items) (targets_of sent.new.items) history.new.calls }
 {
     sent.reserve(1)?;
-    history.reserve(1)?;
+    history.reserve()?;
     let Message::Ask(ask) = &sent[place].message else {
         unreachable!()
     };

@@ -27,6 +27,6 @@ returns g c =
       answers = c.in_ok-did.ensures;
       messages_are = c.post.ensures.sent ∙ ap (λ xs. with_one (messages_of xs) (message_by c.in-Ask.ask.caller c.in-Ask.ask.number c.in_ok-did.did.0)) sent;
       targets_are = c.post.ensures.targets ∙ ap (λ xs. with_one (targets_of xs) (target_of c.in_ok-did.did.0)) sent;
-      noted = c.add_done.ensures ∙ ap (λ xs. with_one xs c.in_ok-did.did.1) c.reserve-2.ensures.items;
+      noted = c.add_done.ensures ∙ ap (λ xs. with_one xs c.in_ok-did.did.1) c.reserve-2.ensures.same;
       outcome_is = c.post.ensures.outcome ∙ ap (λ xs. outcome_of c.in_ok-did.did.0 (length (messages_of xs))) sent;
     }

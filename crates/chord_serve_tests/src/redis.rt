@@ -1,0 +1,4 @@
+//! Redis's protocol: its words, and sessions over memory.
+
+mod connections;
+mod words;
