@@ -3,6 +3,7 @@ ghost use Rattle.std.specs.Prelude.{◌≡◌, ◌*◌, ◌%◌, ◌++◌, ℕ, 
 ghost use Rattle.std.specs.Io.KnownBytes.{Appends, Consumes};
 ghost use Rattle.chord_app_serve.specs.Answered.{AnswersBy};
 ghost use Rattle.chord_app_serve.specs.Asked.{AskerSight, first_asker};
+ghost use Rattle.chord_app_serve.specs.InSession.{IsInSession};
 ghost use Rattle.chord_app_sockets.specs.Until.{read_size, turns_of};
 ghost use Rattle.chord_resp_serve.specs.Connections.{IsAnswered, first_numbers};
 ghost use Rattle.chord_serve.specs.BytesRead.{ReadsBetween, most_bytes};
@@ -19,7 +20,7 @@ use chord_app_text::Finish;
 use chord_live::RingClient;
 use chord_live_ring::Ring;
 use chord_resp_serve::{Informs, ServerInfo, serve_commands};
-use chord_serve::{Served, serve_plain};
+use chord_serve::{ClientSession, Parted, Served, serve_plain, serve_session, tell_opened};
 use chord_store::EntryStore;
 use chord_table::Naming;
 use chord_wire::SessionFrames;
@@ -38,6 +39,9 @@ pub struct Service<'r, J: Naming, S: EntryStore, R, L> {
     pub ring: &'r Ring<J, S>,
     pub notes: &'r L,
 }
+
+/// A session of a ring's client.
+pub type RingSession<'r, J, S, R> = ClientSession<RingAsker<'r, J, S, R>>;
 
 /// The node at which a connection asks: its number modulo the number of nodes that were admitted.
 pub fn node_of(number: u64, nodes: u64) -> u64
@@ -96,6 +100,7 @@ impl<'r, J: Naming, S: EntryStore, R: Wait + Clock, L: Log> Service<'r, J, S, R,
     ) -> (Served, RingClient<'r, J, S>)
         ensures end { EndsInput result.0 (I.remaining reader.new) }
         ensures bytes { ReadsBetween 0 (most_bytes (read_size until.entry) * turns_of until.entry) (I.remaining reader.old) (I.remaining reader.new) }
+        ensures spent { result.0 ≡ Served.TurnsSpent → ReadsBetween (turns_of until.entry) (most_bytes (read_size until.entry) * turns_of until.entry) (I.remaining reader.old) (I.remaining reader.new) }
         // Each request is asked of this caller, in order, and answered by what it was told.
         ensures served { (input : List ℕ) × (output : List ℕ) × (last : AskerSight) × Consumes (I.remaining reader.old) (I.remaining reader.new) input
             × IsServed AnswersBy result.0 None first_state (first_asker idle.entry.caller via) (frames ++ input) output last
@@ -114,6 +119,37 @@ impl<'r, J: Naming, S: EntryStore, R: Wait + Clock, L: Log> Service<'r, J, S, R,
         (served, asker.into_caller())
     }
 
+    /// Serves a client in its session, by the session's caller: says that the session is open, and
+    /// answers first what was read behind its open, and then what the client sends, in reads as
+    /// `until` allows. Gives back what is left of the session.
+    pub fn serve_session<I: Read, O: Write>(
+        &self,
+        client: RingSession<'r, J, S, R>,
+        frames: SessionFrames,
+        reader: &mut I,
+        writer: &mut O,
+        until: Until<'_>,
+    ) -> (Served, Parted<RingAsker<'r, J, S, R>>)
+        ensures end { EndsInput result.0 (I.remaining reader.new) }
+        ensures bytes { ReadsBetween 0 (most_bytes (read_size until.entry) * turns_of until.entry) (I.remaining reader.old) (I.remaining reader.new) }
+        ensures spent { result.0 ≡ Served.TurnsSpent → ReadsBetween (turns_of until.entry) (most_bytes (read_size until.entry) * turns_of until.entry) (I.remaining reader.old) (I.remaining reader.new) }
+        // Each request is asked of the session's caller, in order, and answered by what it was told.
+        ensures parted { (input : List ℕ) × (output : List ℕ) × Consumes (I.remaining reader.old) (I.remaining reader.new) input
+            × IsInSession result.0 client.entry frames input output result.1
+            × Appends (O.contents writer.old) (O.contents writer.new) output }
+    {
+        match tell_opened(self.alloc, writer, &client) {
+            Ok(()) => {
+                let (size, turns) = (until.read_size(), until.turns());
+                serve_session(self.alloc, reader, writer, frames, client, size, turns)
+            }
+            Err(_) => {
+                drop(frames);
+                (Served::Write, Parted::Kept(client))
+            }
+        }
+    }
+
     /// Serves a client that speaks Redis's protocol, by this caller at the node `via`, in
     /// reads as `until` allows. Gives the caller back.
     pub fn serve_redis<I: Read, O: Write, N: Informs>(
@@ -127,6 +163,7 @@ impl<'r, J: Naming, S: EntryStore, R: Wait + Clock, L: Log> Service<'r, J, S, R,
     ) -> (Served, RingClient<'r, J, S>)
         ensures end { EndsInput result.0 (I.remaining reader.new) }
         ensures bytes { ReadsBetween 0 (most_bytes (read_size until.entry) * turns_of until.entry) (I.remaining reader.old) (I.remaining reader.new) }
+        ensures spent { result.0 ≡ Served.TurnsSpent → ReadsBetween (turns_of until.entry) (most_bytes (read_size until.entry) * turns_of until.entry) (I.remaining reader.old) (I.remaining reader.new) }
         // Each request of a command is asked of this caller, in order, and answered by what it was
         // told.
         ensures answered { (input : List ℕ) × (output : List ℕ) × (last : AskerSight) × Consumes (I.remaining reader.old) (I.remaining reader.new) input

@@ -3,10 +3,11 @@
 use crate::serving::asker::RingAsker;
 use crate::serving::idle::IdleCaller;
 use crate::serving::server::{Guest, Server};
+use crate::serving::service::RingSession;
 use chord_app_sockets::{Ended, Host, PatientReader, PatientWriter, PollingReader, prepare};
 use chord_serve::{
-    BeginRefusal, ClientSession, Parted, Resumed, Served, greet, serve_session, tell_no_session,
-    tell_opened, tell_session_known,
+    BeginRefusal, ClientSession, Parted, Resumed, Served, greet, tell_no_session,
+    tell_session_known,
 };
 use chord_store::EntryStore;
 use chord_table::Naming;
@@ -17,9 +18,6 @@ use std::io::Write;
 /// For how many seconds a client that finds no caller may send nothing, until it is told so. One
 /// that resumes a session has a caller.
 const SECONDS_TO_RESUME: u64 = 1;
-
-/// A session of a ring's client.
-type RingSession<'r, J, S, R> = ClientSession<RingAsker<'r, J, S, R>>;
 
 impl<'s, 'r, J: Naming, S: EntryStore, R: Host, L: Log, W: Write> Server<'s, 'r, J, S, R, L, W> {
     /// Reads what a connection begins with. The client may be idle for `idle` seconds.
@@ -195,20 +193,12 @@ impl<'s, 'r, J: Naming, S: EntryStore, R: Host, L: Log, W: Write> Server<'s, 'r,
         guest: Guest<'_>,
         frames: SessionFrames,
     ) -> Ended {
-        let alloc = self.service.alloc;
         let polling = PollingReader::new(guest.stream, &self.pollers);
         let mut reader = PatientReader::new(polling, &self.clients, self.until.idle());
         let mut writer = PatientWriter::new(guest.stream);
-        let (served, parted) = match tell_opened(alloc, &mut writer, &client) {
-            Ok(()) => {
-                let (size, turns) = (self.until.read_size(), self.until.turns());
-                serve_session(alloc, &mut reader, &mut writer, frames, client, size, turns)
-            }
-            Err(_) => {
-                drop(frames);
-                (Served::Write, Parted::Kept(client))
-            }
-        };
+        let (served, parted) = self
+            .service
+            .serve_session(client, frames, &mut reader, &mut writer, self.until);
         self.part(token, parted);
         Ended::by(served, reader.is_idle() || writer.is_idle())
     }
