@@ -4,14 +4,14 @@ ghost use Rattle.std.specs.Prelude.{◌≡◌, [], IfOk, OnErr};
 use crate::checks::check;
 use chord_ident::{Id, Span};
 use chord_map::{Bytes, Pair, PairList, Values};
-use chord_store::{
-    CappedStore, EntryStore, Inserted, ListStore, NotedStore, StoreFault, TreeStore,
-};
+use chord_store::{CappedStore, EntryStore, Inserted, ListStore, NotedStore, StoreFault};
+use chord_tree_store::TreeStore;
 use std::alloc::{AllocError, Global};
 use std::process::Abort;
 use std::sync::{Arc, OnceLock};
 use std::test::Fail;
 
+mod cuts;
 mod growths;
 mod shards;
 

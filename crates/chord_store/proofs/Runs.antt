@@ -12,7 +12,7 @@ use Rattle.chord_map.specs.declared.pair.Pair.{Pair}
 use Rattle.chord_map.specs.Map.{pair_cmp}
 use Rattle.chord_map.specs.Pairs.{IsRising}
 use Rattle.chord_map.proofs.MapLemmas.{values_total}
-use Rattle.chord_store.proofs.Sets.{filter-append}
+use Rattle.std.proofs.lemmas.List.Elements.{filter-append}
 
 -- how a pair's key compares with another
 abbrev pub stands : List ℕ → Pair → Ordering

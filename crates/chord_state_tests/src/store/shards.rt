@@ -5,9 +5,8 @@ use super::{drop_what_was_copied, fill_a_set, move_a_span};
 use crate::checks::check;
 use chord_ident::{Id, Span};
 use chord_map::{Bytes, Pair};
-use chord_store::{
-    CappedStore, EntryStore, Inserted, ListStore, NotedStore, StoreFault, TreeStore,
-};
+use chord_store::{CappedStore, EntryStore, Inserted, ListStore, NotedStore, StoreFault};
+use chord_tree_store::TreeStore;
 use std::alloc::{AllocError, Global};
 use std::process::Abort;
 use std::sync::{Arc, OnceLock};

@@ -1,0 +1,16 @@
+pub mod ValueOrder
+pub mod Sets
+pub mod Dropped
+pub mod Added
+pub mod Memory
+pub mod Placing
+pub mod Shelving
+pub mod Moving
+pub mod Splitting
+pub mod Pairing
+pub mod Gathered
+pub mod Touched
+pub mod Walking
+pub mod Emptied
+pub mod Parts
+pub mod Sorting
