@@ -1,4 +1,5 @@
 pub mod Bodies
+pub mod Conversations
 pub mod Json
 pub mod Metrics
 pub mod Outcomes

@@ -18,6 +18,8 @@ use http::{Request, StatusCode};
 use http_server::{Response, Service};
 use std::alloc::{AllocError, Global};
 
+mod connection;
+
 /// Answers the requests to an operator at a port. It asks the operator once for each call, and not
 /// at all for a request that it refuses.
 #[derive(Drop)]

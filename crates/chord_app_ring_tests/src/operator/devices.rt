@@ -2,7 +2,6 @@
 
 use super::operators::RingValue;
 use chord_app_operator::OperatorService;
-use http_server::{Config, Connection, serve};
 use std::alloc::Global;
 use std::hash::RandomState;
 use std::test::Fail;
@@ -91,15 +90,8 @@ fn serve_over(
     sent: &[u8],
     got: &mut Vec<u8>,
 ) -> Result<(), Fail> {
-    let config = Config {
-        max_body_len: 8192,
-        ..Config::default()
-    };
-    let mut connection = Connection::new(rt.alloc(), RandomState::new(rt)?, config);
     let mut reader = sent;
-    let served = serve(&mut connection, service, &mut reader, got);
-    drop(connection);
-    Ok(served?)
+    Ok(service.serve_connection(RandomState::new(rt)?, &mut reader, got)?)
 }
 
 /// A request to the port's own host.

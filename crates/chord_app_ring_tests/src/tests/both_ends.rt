@@ -12,7 +12,6 @@ use chord_app_ring::{
 };
 use chord_ident::Id;
 use chord_map::Request;
-use http_server::{Config, Connection, serve};
 use http1::{Client, Limits};
 use std::alloc::{AllocError, Global};
 use std::hash::RandomState;
@@ -48,11 +47,8 @@ fn serve_over(
     sent: &[u8],
     got: &mut Vec<u8>,
 ) -> Result<(), Fail> {
-    let mut connection = Connection::new(rt.alloc(), RandomState::new(rt)?, Config::default());
     let mut reader = sent;
-    let served = serve(&mut connection, service, &mut reader, got);
-    drop(connection);
-    Ok(served?)
+    Ok(service.serve_connection(RandomState::new(rt)?, &mut reader, got)?)
 }
 
 /// What a client is told.

@@ -1,6 +1,6 @@
 //! The connections of operators.
 
-use crate::serving::desk::{Desk, OperatorDoor};
+use crate::serving::desk::OperatorDoor;
 use crate::serving::operator::RingOperator;
 use crate::serving::server::Server;
 use chord_app_operator::OperatorService;
@@ -8,7 +8,6 @@ use chord_app_sockets::{Host, PatientReader, PatientWriter, close_slowly, prepar
 use chord_app_text::Finish;
 use chord_store::EntryStore;
 use chord_table::Naming;
-use http_server::{Config, Connection};
 use log::Log;
 use std::io::Write;
 use std::net::TcpStream;
@@ -20,9 +19,6 @@ const MOST_OPERATORS: u64 = 8;
 
 /// For how many seconds an operator may be idle.
 const IDLE_SECONDS: u64 = 10;
-
-/// The most bytes of a body that is read. The service refuses one of more than 4,096 bytes.
-const MOST_BODY: usize = 8_192;
 
 impl<'s, 'r, J: Naming, S: EntryStore, R: Host, L: Log, W: Write> Server<'s, 'r, J, S, R, L, W> {
     /// An operator of the server's ring.
@@ -46,18 +42,13 @@ impl<'s, 'r, J: Naming, S: EntryStore, R: Host, L: Log, W: Write> Server<'s, 'r,
         let Ok(mut service) = OperatorService::new(alloc, door.port, self.operator()) else {
             return;
         };
-        let config = Config {
-            max_body_len: MOST_BODY,
-            ..Config::default()
-        };
-        let mut connection = Connection::new(alloc, door.keys, config);
         let mut reader = PatientReader::new(stream, &door.open, Some(IDLE_SECONDS));
         let mut writer = PatientWriter::new(stream);
-        let _ = http_server::serve(&mut connection, &mut service, &mut reader, &mut writer).is_ok();
+        let served = service.serve_connection(door.keys, &mut reader, &mut writer);
         drop(writer);
         drop(reader);
-        drop(connection);
         drop(service);
+        drop(served);
     }
 
     /// Serves a connection of an operator, and closes it.
