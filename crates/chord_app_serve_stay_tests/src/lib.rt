@@ -1,4 +1,4 @@
-//! The tests of the command `serve --stay`.
+//! The tests of the command `serve --stay` and its clients, over loopback.
 #![tactic(auto)]
 
 #[cfg(test)]

@@ -1,16 +1,16 @@
 //! A server of a ring of two nodes, and who asks it, each on a thread of its own.
 
-use crate::clients::bound;
 use crate::plans::{stores, two_stores};
 use chord_app_plan::Plan;
 use chord_app_serve::{ServerStores, serve, stay};
 use chord_app_sockets::{ClientSeconds, Doors, Host, OperatorPort, ServerSetup};
 use chord_app_text::Finish;
+use chord_serve_testkit::{Addresses, bound};
 use log::Log;
 use std::alloc::{AllocError, Global};
 use std::hash::RandomState;
 use std::io::{self, PipeReader};
-use std::net::{Net, SocketAddr, TcpListener, TcpStream};
+use std::net::{Net, TcpListener, TcpStream};
 
 /// What clients speak at the doors of a server.
 #[derive(Clone, Copy, Debug, PartialEq, Eq)]
@@ -70,14 +70,6 @@ pub struct Listeners {
     frames: TcpListener,
     redis: TcpListener,
     operator: TcpListener,
-}
-
-/// The addresses of these.
-#[derive(Clone, Copy)]
-pub struct Addresses {
-    pub frames: SocketAddr,
-    pub redis: SocketAddr,
-    pub operator: SocketAddr,
 }
 
 /// Listeners at ports of their own, and their addresses.

@@ -1,8 +1,7 @@
 //! Sessions of a server that stays: each has a caller of its own while it is kept.
 
-use crate::tests::players::follow;
 use crate::tests::resumes::keeping;
-use chord_app_serve_testkit::{Act, Acts, Answer, Ask, GOOD, NOTHING, SMALL, Script};
+use chord_app_serve_testkit::{Act, Acts, Answer, Ask, GOOD, NOTHING, SMALL, Script, follow};
 use chord_wire::FaultCode;
 use std::io;
 use std::test::Fail;

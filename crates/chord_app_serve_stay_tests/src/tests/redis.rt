@@ -1,10 +1,9 @@
 //! Redis's clients over loopback, alone and beside clients that speak in frames.
 
 use crate::checks::check;
-use crate::tests::players::{Deed, Player, follow, serve_player};
-use crate::tests::stays::WAITS;
 use chord_app_serve_testkit::{
-    Act, Ending, GOOD, NOTHING, SMALL, Script, Size, Speech, expect, expect_end, look_at,
+    Act, Acts, Ending, GOOD, NOTHING, SMALL, Script, Size, Speech, WAITS, expect, expect_end,
+    follow, follow_to_the_end, look_at, serve_beside,
 };
 use log::sink::Discard;
 use std::alloc::Global;
@@ -64,27 +63,22 @@ fn clients_of_both_protocols_ask_one_ring(rt: HostRuntime) -> Result<(), Fail> {
 }
 
 /// A client of the second door, and then one of the first, which is the last.
-const ONE_AT_EACH_DOOR: Script = Script {
-    first: &[
-        (0, Act::ConnectRedis),
-        (0, ADD),
-        (0, LOOK),
-        (0, Act::Leave),
-        (1, Act::Connect),
-        (1, RETRIEVE),
-        (1, Act::Leave),
-    ],
-    ..NOTHING
-};
+const ONE_AT_EACH_DOOR: Acts = &[
+    (0, Act::ConnectRedis),
+    (0, ADD),
+    (0, LOOK),
+    (0, Act::Leave),
+    (1, Act::Connect),
+    (1, RETRIEVE),
+    (1, Act::Leave),
+];
 
 /// A server of two connections ends after one at each door, though it waits at both.
 #[test]
 fn connections_of_both_doors_are_counted_together(rt: HostRuntime) {
     let lines = "connection 0 ended\nconnection 1 ended\n";
-    let player = Player::new(Deed::Script(ONE_AT_EACH_DOOR));
-    let player = (player, Ending::Connections(2));
-    let played = serve_player(&rt, rt.alloc(), BOTH, &Discard, player);
-    check!(&rt; look_at(rt.alloc(), played, lines) == Some(GOOD));
+    let found = follow_to_the_end(&rt, rt.alloc(), (BOTH, 2), ONE_AT_EACH_DOOR, lines);
+    check!(&rt; found == Some(GOOD));
 }
 
 /// Bytes that are no command, after one that is.
@@ -95,19 +89,16 @@ const BREAK: Act = Act::Exchange(
 
 /// A client holds the one caller while another is told that there is none. The first then sends
 /// bytes that are no command.
-const CROWDED: Script = Script {
-    first: &[
-        (0, Act::ConnectRedis),
-        (0, ADD),
-        (0, LOOK),
-        (1, Act::ConnectRedis),
-        (1, Act::HearBytes(b"-ERR max number of clients reached\r\n")),
-        (1, Act::End),
-        (0, BREAK),
-        (0, Act::End),
-    ],
-    ..NOTHING
-};
+const CROWDED: Acts = &[
+    (0, Act::ConnectRedis),
+    (0, ADD),
+    (0, LOOK),
+    (1, Act::ConnectRedis),
+    (1, Act::HearBytes(b"-ERR max number of clients reached\r\n")),
+    (1, Act::End),
+    (0, BREAK),
+    (0, Act::End),
+];
 
 /// A server of one caller for Redis's clients.
 const REDIS: Size = Size {
@@ -118,10 +109,9 @@ const REDIS: Size = Size {
 /// Redis's clients alone: one gets no caller, and one sends bytes that are no command.
 #[test]
 fn redis_clients_alone(rt: HostRuntime) {
-    let player = (Player::new(Deed::Script(CROWDED)), Ending::Connections(2));
-    let played = serve_player(&rt, rt.alloc(), REDIS, &Discard, player);
     let lines = "connection 0 protocol\nconnection 1 callersspent\n";
-    check!(&rt; look_at(rt.alloc(), played, lines) == Some(GOOD));
+    let found = follow_to_the_end(&rt, rt.alloc(), (REDIS, 2), CROWDED, lines);
+    check!(&rt; found == Some(GOOD));
 }
 
 /// How often a server that takes some connections reads each of them.
@@ -129,7 +119,7 @@ const READS: u64 = 65_536;
 
 /// A client sends each PING once the one before it was answered, so that each is a read of its own.
 /// Behind the last answer the server ends the connection.
-pub fn pings_until_the_end<R: Net>(rt: &R, alloc: Global, redis: SocketAddr) -> io::Result<()> {
+fn pings_until_the_end<R: Net>(rt: &R, alloc: Global, redis: SocketAddr) -> io::Result<()> {
     let mut stream = TcpStream::connect(rt, redis)?;
     for _ in 0..READS {
         stream.write_all(b"PING\r\n")?;
@@ -140,7 +130,10 @@ pub fn pings_until_the_end<R: Net>(rt: &R, alloc: Global, redis: SocketAddr) -> 
 
 #[test]
 fn a_connection_ends_behind_its_last_read(rt: HostRuntime) {
-    let player = (Player::new(Deed::Pings), Ending::Connections(1));
-    let played = serve_player(&rt, rt.alloc(), REDIS, &Discard, player);
-    check!(&rt; look_at(rt.alloc(), played, "connection 0 turnsspent\n") == Some(GOOD));
+    let alloc = rt.alloc();
+    let ending = Ending::Connections(1);
+    let played = serve_beside(&rt, alloc, REDIS, &Discard, ending, |at| {
+        pings_until_the_end(&rt, alloc, at.redis)
+    });
+    check!(&rt; look_at(alloc, played, "connection 0 turnsspent\n") == Some(GOOD));
 }

@@ -1,10 +1,9 @@
 //! Bytes of Redis's clients that are cut off, that pass a limit, or whose answers nobody reads.
 
 use crate::checks::check;
-use crate::tests::players::{Deed, Player, serve_player};
-use crate::tests::stays::WAITS;
 use chord_app_serve_testkit::{
-    Ending, GOOD, SMALL, Size, Speech, expect, expect_end, leave, look_at,
+    Ending, GOOD, SMALL, Size, Speech, WAITS, expect, expect_end, leave, look_at, serve_beside,
+    stay_beside,
 };
 use log::sink::Discard;
 use std::alloc::{AllocError, Global};
@@ -182,7 +181,7 @@ const LIMITS: &[Client] = &[
 ];
 
 /// All of these clients, one after another.
-pub fn each_in_turn<R: Net>(rt: &R, alloc: Global, redis: SocketAddr) -> io::Result<()> {
+fn each_in_turn<R: Net>(rt: &R, alloc: Global, redis: SocketAddr) -> io::Result<()> {
     for bytes in CUTS {
         let mut stream = TcpStream::connect(rt, redis)?;
         stream.write_all(bytes)?;
@@ -210,16 +209,18 @@ fn lines(alloc: Global) -> Result<String, AllocError> {
 /// Each field cut, and each limit passed. Each client has a caller of its own.
 #[test]
 fn hostile_bytes_of_redis_clients(rt: HostRuntime) -> Result<(), Fail> {
-    let lines = lines(rt.alloc())?;
+    let alloc = rt.alloc();
+    let lines = lines(alloc)?;
     let size = Size {
         callers: 64,
         speech: Speech::Redis,
         ..SMALL
     };
     let ending = Ending::Connections(CUTS.len() + LIMITS.len());
-    let player = (Player::new(Deed::Hostile), ending);
-    let played = serve_player(&rt, rt.alloc(), size, &Discard, player);
-    check!(&rt; look_at(rt.alloc(), played, lines.as_str()) == Some(GOOD));
+    let played = serve_beside(&rt, alloc, size, &Discard, ending, |at| {
+        each_in_turn(&rt, alloc, at.redis)
+    });
+    check!(&rt; look_at(alloc, played, lines.as_str()) == Some(GOOD));
     drop(lines);
     Ok(())
 }
@@ -243,11 +244,7 @@ const MUCH: Sent = Sent::Often(b"SMEMBERS k\r\n", 224);
 
 /// One client asks for much and does not read; another is served meanwhile, and leaves. Gives the
 /// open connection.
-pub fn redis_reads_no_more<R: Net>(
-    rt: &R,
-    alloc: Global,
-    redis: SocketAddr,
-) -> io::Result<R::Stream> {
+fn redis_reads_no_more<R: Net>(rt: &R, alloc: Global, redis: SocketAddr) -> io::Result<R::Stream> {
     let mut silent = TcpStream::connect(rt, redis)?;
     fill(alloc, &mut silent)?;
     MUCH.send(alloc, &mut silent)?;
@@ -272,9 +269,12 @@ const ROOMY: Size = Size {
 /// A client that does not read holds up no other, and the server ends while it is open.
 #[test]
 fn a_redis_client_that_does_not_read_is_left(rt: HostRuntime) -> Result<(), Fail> {
-    let player = Player::with_end(Deed::RedisReadsNoMore, WAITS, io::pipe(&rt)?);
-    let played = serve_player(&rt, rt.alloc(), ROOMY, &Discard, player);
+    let alloc = rt.alloc();
+    let pipe = io::pipe(&rt)?;
+    let played = stay_beside(&rt, alloc, (ROOMY, WAITS), &Discard, pipe, |at| {
+        redis_reads_no_more(&rt, alloc, at.redis)
+    });
     let lines = "connection 1 ended\nconnection 0 write\n";
-    check!(&rt; look_at(rt.alloc(), played, lines) == Some(GOOD));
+    check!(&rt; look_at(alloc, played, lines) == Some(GOOD));
     Ok(())
 }

@@ -1,18 +1,19 @@
 //! Many sessions of one server: loads whose connections are cut, and more sessions than callers.
 
 use crate::checks::check;
-use crate::tests::players::{Deed, Played, Player, Told, serve_player};
-use crate::tests::stays::WAITS;
 use chord_app_ask::{Drops, Kind, Load, Tokens, Until, run_load};
-use chord_app_serve_testkit::{Act, Answer, Ask, GOOD, SMALL, Size, do_acts, look_at};
-use chord_app_sockets::{ClientSeconds, Host};
+use chord_app_serve_testkit::{
+    Act, Answer, Ask, GOOD, Handle, SMALL, Size, WAITS, do_acts, look_at, stay_beside,
+};
+use chord_app_sockets::ClientSeconds;
 use chord_app_text::{Fault, Finish};
 use chord_map::{Reply, Request};
 use chord_serve::WireClient;
 use chord_wire::{Answer as WireAnswer, FaultCode};
 use log::sink::Discard;
 use std::alloc::{AllocError, Global};
-use std::net::{Net, SocketAddr, TcpStream};
+use std::io::{PipeReader, PipeWriter};
+use std::net::{Net, SocketAddr, TcpListener, TcpStream};
 use std::sync::Wait;
 use std::test::Fail;
 use std::time::{Clock, Duration};
@@ -102,7 +103,7 @@ fn number_at(table: &[u8], word: &str) -> Option<u64> {
 
 /// How a load went.
 #[derive(Debug, Drop)]
-pub struct Loaded {
+struct Loaded {
     finish: Result<Finish, Finish>,
     /// How many requests had a reply.
     replies: Option<u64>,
@@ -113,7 +114,12 @@ pub struct Loaded {
 }
 
 /// Loads the server, and counts what it holds then.
-pub fn loads<R: Host>(rt: &R, alloc: Global, address: SocketAddr, tokens: Tokens) -> Loaded {
+fn loads<R: Handle + Net<Listener = TcpListener, Stream = TcpStream>>(
+    rt: &R,
+    alloc: Global,
+    address: SocketAddr,
+    tokens: Tokens,
+) -> Loaded {
     let load = cut_load(address.port(), tokens);
     let mut table: Vec<u8> = Vec::new(alloc);
     let finish = run_load(rt, alloc, load, None::<Vec<u8>>, &mut table);
@@ -141,18 +147,21 @@ pub fn keeping(keep: u64) -> ClientSeconds {
     ClientSeconds { keep, ..WAITS }
 }
 
-/// How the load of a server went that ended well.
-fn loaded_of(played: Played) -> Option<Loaded> {
-    let (written, told) = played?;
+/// How a load of connections that are cut went at a server that ended well.
+fn load_beside<R: Handle + Net<Listener = TcpListener, Stream = TcpStream>>(
+    rt: &R,
+    alloc: Global,
+    seconds: ClientSeconds,
+    pipe: (PipeReader, PipeWriter),
+    tokens: Tokens,
+) -> Option<Loaded> {
+    let (written, told) = stay_beside(rt, alloc, (LOADED, seconds), &Discard, pipe, |at| {
+        Ok(loads(rt, alloc, at.frames, tokens))
+    })?;
     let is_well = written.written.is_ok();
     drop(written);
-    match told {
-        Ok(Told::Loaded(loaded)) => is_well.then_some(loaded),
-        other => {
-            drop(other);
-            None
-        }
-    }
+    let loaded = told.ok()?;
+    is_well.then_some(loaded)
 }
 
 /// Sixteen clients lose connections and go on over others: each insert acts once, since no insert
@@ -160,9 +169,7 @@ fn loaded_of(played: Played) -> Option<Loaded> {
 #[test]
 fn sixteen_clients_go_on(rt: HostRuntime) -> Result<(), Fail> {
     let tokens = Tokens::new(&rt)?;
-    let player = Player::with_end(Deed::Load(tokens), keeping(600), io::pipe(&rt)?);
-    let played = serve_player(&rt, rt.alloc(), LOADED, &Discard, player);
-    let loaded = loaded_of(played);
+    let loaded = load_beside(&rt, rt.alloc(), keeping(600), io::pipe(&rt)?, tokens);
     let is_whole = loaded.as_ref().is_some_and(|loaded| {
         loaded.finish == Ok(Finish::Done)
             && loaded.replies == Some(REQUESTS)
@@ -178,9 +185,7 @@ fn sixteen_clients_go_on(rt: HostRuntime) -> Result<(), Fail> {
 #[test]
 fn sixteen_clients_are_lost(rt: HostRuntime) -> Result<(), Fail> {
     let tokens = Tokens::new(&rt)?;
-    let player = Player::with_end(Deed::Load(tokens), keeping(0), io::pipe(&rt)?);
-    let played = serve_player(&rt, rt.alloc(), LOADED, &Discard, player);
-    let loaded = loaded_of(played);
+    let loaded = load_beside(&rt, rt.alloc(), keeping(0), io::pipe(&rt)?, tokens);
     let is_lost = loaded.as_ref().is_some_and(|loaded| {
         let Ok(Finish::Fault(Fault::Unanswered(lost))) = loaded.finish else {
             return false;
@@ -294,7 +299,7 @@ fn resumes_all<R: Net>(rt: &R, alloc: Global, address: SocketAddr) -> io::Result
 }
 
 /// Begins all sessions and resumes them.
-pub fn begins_and_resumes<R: Net + Wait + Clock>(
+fn begins_and_resumes<R: Net + Wait + Clock>(
     rt: &R,
     alloc: Global,
     address: SocketAddr,
@@ -321,15 +326,18 @@ fn lines(alloc: Global) -> Result<String, AllocError> {
 /// Two hundred sessions and a pending one lose their connections on a server of 64 callers.
 #[test]
 fn old_sessions_are_dropped_in_order(rt: HostRuntime) -> Result<(), Fail> {
-    let lines = lines(rt.alloc())?;
+    let alloc = rt.alloc();
+    let lines = lines(alloc)?;
     let size = Size {
         callers: CALLERS,
         room: 1,
         ..SMALL
     };
-    let player = Player::with_end(Deed::Resume, keeping(1), io::pipe(&rt)?);
-    let played = serve_player(&rt, rt.alloc(), size, &Discard, player);
-    check!(&rt; look_at(rt.alloc(), played, lines.as_str()) == Some(GOOD));
+    let pipe = io::pipe(&rt)?;
+    let played = stay_beside(&rt, alloc, (size, keeping(1)), &Discard, pipe, |at| {
+        begins_and_resumes(&rt, alloc, at.frames)
+    });
+    check!(&rt; look_at(alloc, played, lines.as_str()) == Some(GOOD));
     drop(lines);
     Ok(())
 }

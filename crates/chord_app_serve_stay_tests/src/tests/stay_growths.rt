@@ -3,9 +3,9 @@
 //! allocations refuse one.
 
 use crate::checks::check;
-use crate::tests::stays::{WAITS, stay_over};
+use crate::tests::stays::stay_over;
 use chord_app_plan::Plan;
-use chord_app_serve_testkit::{Handle, bound, plan_with};
+use chord_app_serve_testkit::{Handle, WAITS, bound, plan_with};
 use chord_app_sockets::{Doors, Host};
 use chord_app_text::Finish;
 use log::sink::Discard;

@@ -1,12 +1,11 @@
 //! The command `serve --stay` over loopback.
 
 use crate::checks::check;
-use crate::tests::players::{Deed, Player, follow, serve_player};
 use chord_app_plan::Plan;
 use chord_app_serve::{ServerStores, stay};
 use chord_app_serve_testkit::{
-    Act, Answer, Ask, GOOD, Handle, NOTHING, SMALL, Script, Size, bound, leave, look_at, plan_with,
-    two_stores,
+    Act, Answer, Ask, GOOD, Handle, NOTHING, SMALL, Script, Size, WAITS, bound, follow,
+    follow_noted, leave, plan_with, two_stores,
 };
 use chord_app_sockets::{ClientSeconds, Doors, Host, ServerSetup};
 use chord_app_text::{Fault, Finish};
@@ -18,12 +17,6 @@ use std::io::{self, PipeReader, PipeWriter, Write};
 use std::net::{Net, SocketAddr, TcpListener, TcpStream};
 use std::test::Fail;
 use std::thread;
-
-/// For how many seconds a server waits for clients: no test leaves them idle for as long.
-pub const WAITS: ClientSeconds = ClientSeconds {
-    idle: 300,
-    keep: 600,
-};
 
 /// Serves until the input ends, over two stores with room for `limit` pairs.
 pub fn stay_over<'a, R: Host, L: Log + Sync, W: Write + Send + Drop>(
@@ -108,10 +101,10 @@ const CROWDED: Script = Script {
 fn a_caller_that_is_taken(rt: HostRuntime) -> Result<(), Fail> {
     let notes = Locked::new(rt, Vec::new(rt.alloc()));
     let wanted = "connection 1 callersspent\nconnection 0 ended\nconnection 2 ended\n";
-    let deed = Deed::Script(CROWDED);
-    let player = Player::with_end(deed, WAITS, io::pipe(&rt)?);
-    let played = serve_player(&rt, rt.alloc(), SMALL, &notes, player);
-    check!(&rt; look_at(rt.alloc(), played, wanted) == Some(GOOD));
+    let pipe = io::pipe(&rt)?;
+    let server = (SMALL, WAITS);
+    let found = follow_noted(&rt, rt.alloc(), server, &notes, CROWDED, pipe, wanted);
+    check!(&rt; found == Some(GOOD));
     let noted: Vec<u8> = notes.into_inner();
     let wanted =
         "[INFO  chord] connection 1 callersspent\n[INFO  chord] connection 0 ended\n[INFO  chord] connection 2 ended\n";

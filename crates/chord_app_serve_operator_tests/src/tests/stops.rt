@@ -3,10 +3,9 @@
 
 use crate::checks::check;
 use crate::tests::operators::{Call, PLAIN, each_is_answered};
-use crate::tests::players::{Deed, Player, serve_player};
-use crate::tests::stays::WAITS;
 use chord_app_serve_testkit::{
-    Addresses, GOOD, SMALL, Size, expect, fill, look_at, request_frame, retrieve,
+    Addresses, GOOD, SMALL, Size, WAITS, expect, fill, look_at, request_frame, retrieve,
+    stay_beside,
 };
 use chord_app_sockets::ClientSeconds;
 use log::sink::Discard;
@@ -33,7 +32,7 @@ fn ask_for_all<S: Write>(alloc: Global, stream: &mut S) -> io::Result<()> {
 const LENGTH: &[u8] = b"\x00\x02\x00\x4e";
 
 /// Reads only the beginning of the first long answer. Gives the open connection.
-pub fn reads_no_more<R: Net>(rt: &R, alloc: Global, address: SocketAddr) -> io::Result<R::Stream> {
+fn reads_no_more<R: Net>(rt: &R, alloc: Global, address: SocketAddr) -> io::Result<R::Stream> {
     let mut stream = TcpStream::connect(rt, address)?;
     fill(alloc, &mut stream)?;
     ask_for_all(alloc, &mut stream)?;
@@ -51,9 +50,12 @@ const ROOMY: Size = Size {
 /// while the connection is open, and writes that it could not write to it.
 #[test]
 fn a_client_that_does_not_read_is_left(rt: HostRuntime) -> Result<(), Fail> {
-    let player = Player::with_end(Deed::ReadsNoMore, WAITS, io::pipe(&rt)?);
-    let played = serve_player(&rt, rt.alloc(), ROOMY, &Discard, player);
-    check!(&rt; look_at(rt.alloc(), played, "connection 0 write\n") == Some(GOOD));
+    let alloc = rt.alloc();
+    let pipe = io::pipe(&rt)?;
+    let played = stay_beside(&rt, alloc, (ROOMY, WAITS), &Discard, pipe, |at| {
+        reads_no_more(&rt, alloc, at.frames)
+    });
+    check!(&rt; look_at(alloc, played, "connection 0 write\n") == Some(GOOD));
     Ok(())
 }
 
@@ -75,7 +77,7 @@ const ONE_WAS_IDLE: &[Call] = &[
 
 /// A client does not read until an operator sees that the server ended its connection. Gives the
 /// connection, which is open at the client's side.
-pub fn is_left<R: Net + Clock>(rt: &R, alloc: Global, at: Addresses) -> io::Result<R::Stream> {
+fn is_left<R: Net + Clock>(rt: &R, alloc: Global, at: Addresses) -> io::Result<R::Stream> {
     let stream = reads_no_more(rt, alloc, at.frames)?;
     each_is_answered(rt, alloc, at.operator, ONE_WAS_IDLE)?;
     Ok(stream)
@@ -90,8 +92,11 @@ fn a_client_that_does_not_read_is_idle(rt: HostRuntime) -> Result<(), Fail> {
         operator: Some(RandomState::new(&rt)?),
         ..ROOMY
     };
-    let player = Player::with_end(Deed::IsLeft, seconds, io::pipe(&rt)?);
-    let played = serve_player(&rt, rt.alloc(), size, &Discard, player);
-    check!(&rt; look_at(rt.alloc(), played, "connection 0 idle\n") == Some(GOOD));
+    let alloc = rt.alloc();
+    let pipe = io::pipe(&rt)?;
+    let played = stay_beside(&rt, alloc, (size, seconds), &Discard, pipe, |at| {
+        is_left(&rt, alloc, at)
+    });
+    check!(&rt; look_at(alloc, played, "connection 0 idle\n") == Some(GOOD));
     Ok(())
 }

@@ -1,7 +1,5 @@
 //! Clients of a server, over loopback.
 
-use chord_app_plan::Plan;
-use chord_app_plan_testkit::{changed, plan_of};
 use chord_map::{Bytes, Reply, Request, Values};
 use chord_wire::{
     FaultCode, is_writable, write_fault, write_reply, write_request, write_request_2,
@@ -9,13 +7,6 @@ use chord_wire::{
 use std::alloc::{AllocError, Global};
 use std::io::{self, Read, Write};
 use std::net::{Net, OpenStream, Shutdown, SocketAddr, TcpListener, TcpStream};
-
-/// A plan of two nodes, with `callers` callers.
-pub fn plan_with(alloc: Global, callers: u64) -> Option<Plan> {
-    let line = format!(in alloc; "callers = {callers}").ok()?;
-    let text = changed(alloc, "callers = 1", line.as_str()).ok()?;
-    plan_of(alloc, text.as_str())
-}
 
 /// A listener at a port of its own, and its address.
 pub fn bound<R: Net<Listener = TcpListener, Stream = TcpStream>>(

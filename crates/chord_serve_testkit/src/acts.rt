@@ -4,14 +4,11 @@ use crate::clients::{
     expect, expect_end, fault_frame, insert, leave, remove, reply_frame, request_frame, retrieve,
     session_request_frame, values_of,
 };
-use crate::servers::Addresses;
 use chord_map::{Reply, Request};
 use chord_wire::{FaultCode, Opening, Token, write_close, write_closed, write_open, write_opened};
 use std::alloc::{AllocError, Global};
-use std::io::{self, PipeWriter, Read, Write};
+use std::io::{self, Read, Write};
 use std::net::{Net, OpenStream, Shutdown, SocketAddr, TcpStream};
-use std::thread;
-use std::time::{Clock, Duration};
 
 /// What a request asks for.
 #[derive(Clone, Copy)]
@@ -179,6 +176,14 @@ fn hear<S: Read>(alloc: Global, stream: &mut S, number: u64, answer: Answer) -> 
     expect(alloc, stream, &wanted)
 }
 
+/// Where a server listens for clients and for an operator.
+#[derive(Clone, Copy)]
+pub struct Addresses {
+    pub frames: SocketAddr,
+    pub redis: SocketAddr,
+    pub operator: SocketAddr,
+}
+
 /// Acts, each with the index of its client. Clients connect in the order of their index, from 0.
 pub type Acts = &'static [(usize, Act)];
 
@@ -252,23 +257,3 @@ pub const NOTHING: Script = Script {
     then: &[],
     after: &[],
 };
-
-/// Clients that follow a script, and the end of the server's input, if it has one.
-#[derive(Drop)]
-pub struct Actors {
-    pub script: Script,
-    pub input: Option<PipeWriter>,
-}
-
-impl Actors {
-    /// Does the acts of the script.
-    pub fn play<R: Net + Clock>(self, rt: &R, alloc: Global, at: Addresses) -> io::Result<()> {
-        let Actors { script, input } = self;
-        let mut streams = Vec::new(alloc);
-        do_acts_at(rt, alloc, at, &mut streams, script.first)?;
-        thread::sleep(rt, Duration::from_millis(script.pause));
-        do_acts_at(rt, alloc, at, &mut streams, script.then)?;
-        drop(input);
-        do_acts_at(rt, alloc, at, &mut streams, script.after)
-    }
-}

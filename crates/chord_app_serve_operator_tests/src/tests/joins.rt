@@ -2,14 +2,13 @@
 
 use crate::checks::check;
 use crate::tests::operators::{Call, NO_SLOT, PLAIN, unanswered};
-use crate::tests::players::{Deed, Played, Player, Told, serve_player};
-use crate::tests::stays::WAITS;
-use chord_app_serve_testkit::{Act, Addresses, Answer, Ask, SMALL, Size, do_acts};
-use chord_app_sockets::Host;
+use chord_app_serve_testkit::{
+    Act, Addresses, Answer, Ask, Handle, Played, SMALL, Size, WAITS, do_acts, stay_beside,
+};
 use log::sink::Discard;
 use std::alloc::Global;
 use std::hash::RandomState;
-use std::net::{Net, SocketAddr};
+use std::net::{Net, SocketAddr, TcpListener, TcpStream};
 use std::sync::atomic::{AtomicBool, Ordering};
 use std::test::Fail;
 use std::time::Clock;
@@ -235,7 +234,7 @@ fn operate_to_the_end<R: Net + Clock>(
 
 /// How a server was operated while two clients asked.
 #[derive(Debug, Drop)]
-pub struct Joined {
+struct Joined {
     /// How many rounds each client asked.
     x: io::Result<u64>,
     y: io::Result<u64>,
@@ -245,7 +244,11 @@ pub struct Joined {
 }
 
 /// Two clients ask while the operator does its scripts. Then the operator stops the server.
-pub fn join_and_ask<R: Host>(rt: &R, alloc: Global, at: Addresses) -> Joined {
+fn join_and_ask<R: Handle + Net<Listener = TcpListener, Stream = TcpStream>>(
+    rt: &R,
+    alloc: Global,
+    at: Addresses,
+) -> Joined {
     let is_over = AtomicBool::new(false);
     let is_over = &is_over;
     let (x, (y, operated)) = thread::join(
@@ -264,17 +267,12 @@ pub fn join_and_ask<R: Host>(rt: &R, alloc: Global, at: Addresses) -> Joined {
 }
 
 /// Whether the server ended well, and what was told.
-fn joined_of(played: Played) -> Option<(bool, Joined)> {
+fn joined_of(played: Played<Joined>) -> Option<(bool, Joined)> {
     let (written, told) = played?;
     let is_well = written.written.is_ok();
     drop(written);
-    match told {
-        Ok(Told::Joined(joined)) => Some((is_well, joined)),
-        other => {
-            drop(other);
-            None
-        }
-    }
+    let joined = told.ok()?;
+    Some((is_well, joined))
 }
 
 /// A node joins and gets the key that is asked for, leaves and is gone, two more join, and one
@@ -287,8 +285,11 @@ fn nodes_come_and_go_while_clients_ask(rt: HostRuntime) -> Result<(), Fail> {
         operator: Some(RandomState::new(&rt)?),
         ..SMALL
     };
-    let player = Player::with_end(Deed::Join, WAITS, io::pipe(&rt)?);
-    let played = serve_player(&rt, rt.alloc(), size, &Discard, player);
+    let alloc = rt.alloc();
+    let pipe = io::pipe(&rt)?;
+    let played = stay_beside(&rt, alloc, (size, WAITS), &Discard, pipe, |at| {
+        Ok(join_and_ask(&rt, alloc, at))
+    });
     let (is_well, joined) = joined_of(played).expect(&rt, "memory and ports for a server");
     let Joined { x, y, operated } = joined;
     check!(&rt;

@@ -1,9 +1,8 @@
 //! The operator of `serve --stay` over loopback.
 
-use crate::tests::players::{Deed, Player, serve_player};
-use crate::tests::stays::WAITS;
 use chord_app_serve_testkit::{
-    Act, Acts, Addresses, Answer, Ask, Found, GOOD, Handle, SMALL, Size, do_acts, look_at,
+    Act, Acts, Addresses, Answer, Ask, Found, GOOD, Handle, SMALL, Size, WAITS, do_acts, look_at,
+    stay_beside,
 };
 use log::sink::Discard;
 use std::alloc::Global;
@@ -346,19 +345,14 @@ pub fn each_is_answered<R: Net + Clock>(
 
 /// What an operator or clients do next.
 #[derive(Clone, Copy)]
-pub enum Step {
+enum Step {
     /// Each of these calls is answered as is wanted, at once or after some time.
     Operator(&'static [Call]),
     Clients(Acts),
 }
 
 /// An operator and clients do these steps, one after another.
-pub fn operate<R: Net + Clock>(
-    rt: &R,
-    alloc: Global,
-    at: Addresses,
-    steps: &[Step],
-) -> io::Result<()> {
+fn operate<R: Net + Clock>(rt: &R, alloc: Global, at: Addresses, steps: &[Step]) -> io::Result<()> {
     let mut streams = Vec::new(alloc);
     for step in steps {
         match step {
@@ -380,8 +374,10 @@ fn operated<R: Handle + Net<Listener = TcpListener, Stream = TcpStream>>(
     lines: &str,
 ) -> Option<Found> {
     let operator = Some(keys);
-    let player = Player::with_end(Deed::Operate(steps), WAITS, pipe);
-    let played = serve_player(rt, alloc, Size { operator, ..size }, &Discard, player);
+    let server = (Size { operator, ..size }, WAITS);
+    let played = stay_beside(rt, alloc, server, &Discard, pipe, |at| {
+        operate(rt, alloc, at, steps)
+    });
     look_at(alloc, played, lines)
 }
 

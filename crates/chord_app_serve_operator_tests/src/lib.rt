@@ -1,0 +1,7 @@
+//! The tests of a server's operator, over loopback.
+#![tactic(auto)]
+
+#[cfg(test)]
+mod checks;
+#[cfg(test)]
+mod tests;

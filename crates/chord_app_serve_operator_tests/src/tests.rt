@@ -1,0 +1,5 @@
+//! Tests, by what they look at.
+
+mod joins;
+mod operators;
+mod stops;
