@@ -8,7 +8,7 @@ ghost use Rattle.http1.specs.Client.{new_client};
 
 use crate::command::RingCommand;
 use chord_app_operator::{JoinRequest, PairsRequest, ToJson, id_text};
-use http1::{BodySize, Client, Header, Limits};
+use http1::{BodySize, Client, Header};
 use serde_json::{Map, Value, json, put};
 use std::alloc::{AllocError, Global};
 

@@ -18,7 +18,7 @@ use std::io::{self, BufWriter, Write};
 use std::marker::Brand;
 use std::sync::Wait;
 use std::thread;
-use std::thread::{JoinHandle, Scope, Threads};
+use std::thread::{JoinHandle, Threads};
 use std::time::Clock;
 
 /// How the asks of all callers ended, and these callers.

@@ -4,7 +4,6 @@ ghost use Rattle.std.specs.Prelude.{◌≡◌};
 ghost use Rattle.chord_app_sockets.specs.Ended.{ended_by, is_closed_slowly};
 
 use chord_serve::Served;
-use chord_wire::FaultCode;
 use std::fmt;
 
 #[derive(Clone, Copy, Debug, PartialEq, Eq)]

@@ -4,7 +4,7 @@ ghost use Rattle.chord_ident.specs.Circle.{IsBetween};
 ghost use Rattle.chord_links.specs.NodeLinks.{first_entry};
 ghost use Rattle.chord_ring.specs.Steps.{joined_links, links_behind, without_head, candidate_of, gives_way, rectified_links};
 
-use chord_ident::{Id, between};
+use chord_ident::between;
 use chord_links::{Links, Peer, SuccList};
 use thiserror::Error;
 

@@ -8,7 +8,7 @@ ghost use Rattle.chord_store.specs.Store.{reply_for};
 use chord_ident::Id;
 use chord_map::{Bytes, Reply, Request};
 use chord_store::{EntryStore, Inserted, StoreFault};
-use std::alloc::{AllocError, Global};
+use std::alloc::Global;
 
 /// The reply to an insert that did this.
 fn reply_to_insert(did: Inserted) -> Reply

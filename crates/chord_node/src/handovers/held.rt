@@ -8,7 +8,7 @@ ghost use Rattle.chord_node.specs.View.{segments_of};
 
 use crate::fault::{CutAtFault, MergeFault};
 use chord_ident::{Id, Span};
-use chord_segment::{CutFault, Segment, SegmentJoinFault};
+use chord_segment::{Segment, SegmentJoinFault};
 use std::alloc::Global;
 use std::mem::replace;
 

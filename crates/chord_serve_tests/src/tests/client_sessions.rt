@@ -2,7 +2,7 @@
 
 use super::in_flight::send;
 use super::script::{CLOSE, CLOSED, OPEN, TOKEN, change, opened};
-use super::sessions::{ADDED, fault, insert, joined};
+use super::sessions::{ADDED, insert, joined};
 use crate::checks::check;
 use chord_serve::{BeginFault, CallFault, CloseFault, OpenFault, ResumeFault, WireClient};
 use chord_serve_testkit::{Cut, Limited, Limits};

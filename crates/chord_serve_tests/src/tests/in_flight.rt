@@ -2,7 +2,7 @@
 //! of what the client does, with what it is answered.
 
 use super::askers::{AtFirst, LateAsker};
-use super::sessions::{ADDED, INSERT_2, fault, insert};
+use super::sessions::{INSERT_2, fault, insert};
 use crate::checks::check;
 use chord_map::{Reply, Request};
 use chord_serve::{

@@ -7,7 +7,7 @@ ghost use Rattle.chord_map.specs.declared.pair.Pair.{Pair};
 use crate::checks::check;
 use crate::steps::deeds::{A, B, C, Deed, new_world, steps_of};
 use chord_store::ListStore;
-use chord_world::{Outcome, Refusal, StepFault, StepResult, World, run};
+use chord_world::{Outcome, Refusal, StepFault, StepResult, run};
 use std::alloc::{AllocError, Global};
 use std::test::Fail;
 

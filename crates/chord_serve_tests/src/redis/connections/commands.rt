@@ -5,7 +5,6 @@ use chord_map::{Bytes, Request};
 use chord_resp::{Command, Commands};
 use chord_resp_serve::{About, Flow, Numbers, answer_command, answer_words};
 use std::alloc::{AllocError, Global};
-use std::process::Abort;
 
 /// The requests that were asked, as text, and how often one was sent again.
 fn show_requests(text: &mut Vec<u8>, asker: &Scripted) -> Result<(), AllocError> {

@@ -9,7 +9,6 @@ use chord_resp::{Commands, ReadError, Words};
 use chord_resp_serve::{About, Numbers, ServerInfo, answer_words, serve_commands};
 use chord_serve::{ReadSize, Served};
 use std::alloc::{AllocError, Global};
-use std::process::Abort;
 
 /// A command and its answer.
 #[derive(Clone, Copy)]

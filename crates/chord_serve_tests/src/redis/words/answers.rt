@@ -6,7 +6,6 @@ use chord_resp::{
     put_integers, put_null, put_refusal, put_simple,
 };
 use std::alloc::{AllocError, Global};
-use std::process::Abort;
 
 /// Adds one of each answer.
 fn put_each(out: &mut Vec<u8>, values: &[Bytes]) -> Result<(), AllocError> {

@@ -5,7 +5,6 @@ use crate::checks::check;
 use chord_map::Bytes;
 use chord_resp::{Commands, ReadError, Words, put_bulk, put_bulks};
 use std::alloc::Global;
-use std::process::Abort;
 
 /// The next command, read again if memory was refused.
 fn next_again(commands: &mut Commands) -> Option<Words> {

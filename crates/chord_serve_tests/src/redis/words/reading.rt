@@ -3,7 +3,6 @@ use super::shown::{Stop, show_commands, show_pieces};
 use crate::checks::check;
 use chord_resp::{Commands, ProtocolError, Word, laws};
 use std::alloc::Global;
-use std::process::Abort;
 
 /// A stream, its commands as text, and why reading stopped.
 struct Row {

@@ -3,7 +3,6 @@ use crate::checks::check;
 use chord_map::{Bytes, Values};
 use chord_resp::{Command, Commands, Denied, Verb, Word, command_of, is_text, refusal_text};
 use std::alloc::{AllocError, Global};
-use std::process::Abort;
 
 /// A line of a client, and what it calls for, as text.
 struct Row {
