@@ -3,13 +3,15 @@
 use crate::checks::check;
 use chord_app_serve_testkit::{
     Act, Acts, Ending, GOOD, NOTHING, SMALL, Script, Size, Speech, WAITS, expect, expect_end,
-    follow, follow_to_the_end, look_at, serve_beside,
+    follow, follow_to_the_end, leave, look_at, serve_beside,
 };
 use log::sink::Discard;
 use std::alloc::Global;
-use std::io::{self, Write};
+use std::io::{self, Read, Write};
 use std::net::{Net, SocketAddr, TcpStream};
 use std::test::Fail;
+use std::thread;
+use std::time::{Clock, Duration};
 
 /// A client adds x to the set a.
 const ADD: Act = Act::Exchange(b"*3\r\n$4\r\nSADD\r\n$1\r\na\r\n$1\r\nx\r\n", b":1\r\n");
@@ -136,4 +138,34 @@ fn a_connection_ends_behind_its_last_read(rt: HostRuntime) {
         pings_until_the_end(&rt, alloc, at.redis)
     });
     check!(&rt; look_at(alloc, played, "connection 0 turnsspent\n") == Some(GOOD));
+}
+
+/// What INFO tells of a server of two nodes once each holds its part of the circle: a length, and
+/// then this text.
+const TWO_NODES_AT_REST: &[u8] =
+    b"$157\r\n# Server\r\nserver:chord\r\nprotocol:2\r\n# Clients\r\nconnected_clients:1\r\n# Nodes\r\nnode0:phase=staying,pairs=0,segments=1\r\nnode1:phase=staying,pairs=0,segments=1\r\n\r\n";
+
+/// A client asks until it is told so.
+fn asks_for_info<R: Net + Clock>(rt: &R, alloc: Global, redis: SocketAddr) -> io::Result<()> {
+    let mut stream = TcpStream::connect(rt, redis)?;
+    let mut told = vec![in alloc; 0u8; TWO_NODES_AT_REST.len()]?;
+    for _ in 0..1_000 {
+        stream.write_all(b"INFO\r\n")?;
+        stream.read_exact(&mut told)?;
+        if told.as_slice() == TWO_NODES_AT_REST {
+            return leave(&mut stream);
+        }
+        thread::sleep(rt, Duration::from_millis(10));
+    }
+    Err(io::Error::from(io::ErrorKind::InvalidData))
+}
+
+#[test]
+fn info_tells_of_each_node(rt: HostRuntime) {
+    let alloc = rt.alloc();
+    let ending = Ending::Connections(1);
+    let played = serve_beside(&rt, alloc, REDIS, &Discard, ending, |at| {
+        asks_for_info(&rt, alloc, at.redis)
+    });
+    check!(&rt; look_at(alloc, played, "connection 0 ended\n") == Some(GOOD));
 }
