@@ -1,6 +1,7 @@
 //! Gaps between the identifiers of nodes.
-ghost use Rattle.std.specs.Prelude.{◌≡◌, ◌≢◌, None, All, IfSome};
-ghost use Rattle.chord_app_serve.specs.Gaps.{IsFree, IsInGap};
+ghost use Rattle.std.specs.Prelude.{◌≡◌, ◌≢◌, ◌↔◌, ◌⊎◌, [], None, All, IfSome};
+ghost use Rattle.chord_ident.specs.Circle.{distance};
+ghost use Rattle.chord_app_serve.specs.Gaps.{IsFree, IsBound, IsInGap, IsWidest, IsByMiddle, AreAll, place_in};
 
 use chord_ident::Id;
 
@@ -16,6 +17,7 @@ impl Gap {
     /// The widest gap behind this identifier that has none of these.
     pub fn behind(after: Id, ids: &[Id]) -> Gap
         ensures free { IsFree ids.now result }
+        ensures widest { IsBound ids.now result.width after }
         ensures after { result.after ≡ after }
     {
         let mut width = u128::MAX;
@@ -30,7 +32,8 @@ impl Gap {
     /// The widest gap behind one of these identifiers that has none of them. None if there are
     /// none.
     pub fn widest(ids: &[Id]) -> Option<Gap>
-        ensures { IfSome result (IsFree ids.now) }
+        ensures some { IfSome result (IsWidest ids.now) }
+        ensures none { result ≡ None → ids.now ≡ [] }
     {
         let mut widest: Option<Gap> = None;
         for id in ids {
@@ -47,7 +50,8 @@ impl Gap {
     #[tactic(auto, unfolding(chord_ident::specs::Circle::distance))]
     pub fn by_middle(self, draw: u64) -> Option<Id>
         ensures some { IfSome result (λ id. IsInGap self id.number) }
-        ensures none { result ≡ None → self.width ≡ 0 }
+        ensures place { IfSome result (λ id. distance self.after.number id.number ≡ place_in self draw) }
+        ensures none { (result ≡ None) ↔ (self.width ≡ 0) }
     {
         if self.width == 0 {
             return None;
@@ -60,7 +64,9 @@ impl Gap {
 /// An identifier that is none of these, by the middle of the widest gap between them. `draw` says
 /// which. None if there are none, or none is free.
 pub fn free_id(ids: &[Id], draw: u64) -> Option<Id>
-    ensures { IfSome result (λ id. All (λ other. other.number ≢ id.number) ids.now) }
+    ensures some { IfSome result (λ id. All (λ other. other.number ≢ id.number) ids.now) }
+    ensures middle { IfSome result (IsByMiddle ids.now draw) }
+    ensures none { result ≡ None → (ids.now ≡ []) ⊎ AreAll ids.now }
 {
     Gap::widest(ids)?.by_middle(draw)
 }

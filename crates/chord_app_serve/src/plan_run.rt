@@ -1,5 +1,7 @@
 //! The command `run`: a ring of a plan's nodes, and what its callers ask.
-ghost use Rattle.std.specs.Prelude.{◌≡◌, ◌++◌, map, IfOk, OnOk};
+ghost use Rattle.std.specs.Prelude.{◌≡◌, ◌↔◌, ◌++◌, Err, map, IfOk, OnOk};
+ghost use Rattle.chord_app_text.specs.declared.finish.Finish.TheVariants as Finish;
+ghost use Rattle.chord_live_types.specs.Limits.{AreWithin};
 ghost use Rattle.chord_app_serve.specs.Together.{AreGroups, StandTogether, caller_in, callers_in};
 
 mod asking;
@@ -184,7 +186,8 @@ fn run_named<J: Naming + Send + Sync, S: EntryStore + Send, R: Threads + Wait + 
 
 /// A ring of this size that has no name yet.
 pub fn ring_parts_of(alloc: Global, settings: Settings) -> Result<RingParts, Finish>
-    ensures { IfOk result (λ parts. parts.settings ≡ settings) }
+    ensures ok { IfOk result (λ parts. parts.settings ≡ settings) }
+    ensures bad { (result ≡ Err Finish.BadPlan) ↔ (¬ AreWithin settings) }
 {
     match RingParts::new(alloc, settings) {
         Ok(parts) => Ok(parts),

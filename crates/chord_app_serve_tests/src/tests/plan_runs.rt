@@ -112,6 +112,29 @@ fn refused_node(rt: HostRuntime) {
     check!(&rt; runs_refused(&rt, rt.alloc()) == Some((fault, true)));
 }
 
+/// How a plan ended with this number of slots, and whether it wrote nothing.
+fn runs_with_slots<R: Threads + Wait + Clock + Sync>(
+    rt: &R,
+    alloc: Global,
+    slots: usize,
+) -> Option<(Finish, bool)> {
+    let mut plan = plan_of(alloc, TWO_NODES)?;
+    plan.settings.slots = slots;
+    let stores = two_stores(alloc, 4).ok()?;
+    let ran = runs_over(rt, alloc, &plan, stores, "");
+    drop(plan);
+    Some(ran)
+}
+
+/// No ring has no slots, or more than 4,096.
+#[test]
+fn settings_of_no_ring(rt: HostRuntime) {
+    for slots in [0, 4_097] {
+        let ran = runs_with_slots(&rt, rt.alloc(), slots);
+        check!(&rt; ran == Some((Finish::BadPlan, true)));
+    }
+}
+
 /// Checks the words that a line has for this end of an ask.
 fn is_told(alloc: Global, ended: AskResult, wanted: &str) -> bool {
     let text = format!(in alloc; "{ended}");
