@@ -7,3 +7,4 @@ mod ends;
 mod patience;
 mod polling;
 mod stopping;
+mod watching;

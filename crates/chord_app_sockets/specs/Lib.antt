@@ -1,5 +1,6 @@
 pub mod Ended
 pub mod Patience
 pub mod Until
+pub mod Watching
 pub mod Doors
 pub mod Polling
