@@ -7,4 +7,3 @@ mod ends;
 mod patience;
 mod polling;
 mod stopping;
-mod watching;

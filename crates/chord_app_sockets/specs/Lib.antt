@@ -1,6 +1,5 @@
 pub mod Ended
 pub mod Patience
 pub mod Until
-pub mod Watching
 pub mod Doors
 pub mod Polling

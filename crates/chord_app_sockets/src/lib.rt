@@ -1,8 +1,7 @@
 //! What a server needs besides its ring: where it listens ([`ServerSetup`], [`Doors`],
 //! [`OperatorPort`]), the open connections ([`Clients`]), how long it waits for each
 //! ([`PatientReader`], [`PatientWriter`]), when a read polls and beside how many others
-//! ([`PollingReader`], [`Pollers`]), when it is told of bytes instead ([`WatchedReader`],
-//! [`Watch`]), how each ends ([`Ended`]) and is closed ([`close_slowly`]),
+//! ([`PollingReader`], [`Pollers`]), how each ends ([`Ended`]) and is closed ([`close_slowly`]),
 //! the lines that it writes ([`Lines`]), when it ends ([`Until`], [`Stop`]), and what its handle
 //! may do ([`Host`]).
 #![tactic(auto)]
@@ -18,13 +17,8 @@ mod poll_habit;
 mod pollers;
 mod polling;
 mod setup;
-mod small_reads;
 mod stop;
 mod until;
-mod watch;
-mod watched;
-mod watched_reader;
-mod watcher;
 
 pub use clients::Clients;
 pub use closing::close_slowly;
@@ -36,10 +30,5 @@ pub use patience::{PatientReader, PatientWriter, prepare};
 pub use pollers::Pollers;
 pub use polling::{Pollable, PollingReader};
 pub use setup::{OperatorPort, ServerSetup, listen};
-pub use small_reads::SmallReads;
 pub use stop::Stop;
 pub use until::{ClientSeconds, Until};
-pub use watch::Watch;
-pub use watched::Watched;
-pub use watched_reader::WatchedReader;
-pub use watcher::Watcher;

@@ -67,11 +67,6 @@ impl Pollers {
         (self.polls / connections.max(1)).max(POLLS)
     }
 
-    /// Whether there are more connections than places.
-    pub(crate) fn are_crowded(&self) -> bool {
-        self.connections.load(Ordering::SeqCst) > self.most
-    }
-
     /// Takes a place, if one is free.
     pub(crate) fn enter(&self) -> bool {
         let most = self.most;

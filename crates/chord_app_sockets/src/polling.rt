@@ -81,11 +81,7 @@ fn poll<R: Read>(reader: &mut R, buf: &mut [u8], polls: u64) -> Option<io::Resul
 
 impl<R: Pollable> PollingReader<'_, R> {
     /// Polls this many times at most. The stream sleeps again afterwards.
-    pub(crate) fn poll(
-        &mut self,
-        buf: &mut [u8],
-        polls: u64,
-    ) -> io::Result<Option<io::Result<usize>>>
+    fn poll(&mut self, buf: &mut [u8], polls: u64) -> io::Result<Option<io::Result<usize>>>
         ensures { IfOk result (λ polled. IfSome polled (λ read. ReadsAtMost read buf.new)) }
     {
         self.inner.set_nonblocking(true)?;

@@ -10,8 +10,8 @@ use crate::serving::service::{Service, node_of};
 use crate::serving::sessions::Sessions;
 use crate::serving::tally::Tally;
 use chord_app_sockets::{
-    Clients, Door, Doors, Ended, Host, Lines, PatientReader, PatientWriter, Pollers, Protocol,
-    ServerSetup, Until, Watch, WatchedReader, Watcher, close_slowly, prepare,
+    Clients, Door, Doors, Ended, Host, Lines, PatientReader, PatientWriter, Pollers, PollingReader,
+    Protocol, ServerSetup, Until, close_slowly, prepare,
 };
 use chord_app_text::Finish;
 use chord_live_ring::{ReturnedCaller, Ring, RingParts};
@@ -49,7 +49,6 @@ pub struct Server<'s, 'r, J: Naming, S: EntryStore, R, L, W> {
     pub tally: Tally,
     pub clients: Clients,
     pub pollers: Pollers,
-    pub watch: Watch,
     pub lines: &'s Lines<W>,
     pub until: Until<'s>,
     /// How many connections of clients got a number, at all doors.
@@ -104,19 +103,6 @@ impl<'s, 'r, J: Naming, S: EntryStore, R: Host, L: Log, W: Write> Server<'s, 'r,
         self.pool.take(rt, guest.via)
     }
 
-    /// Reads what a client sends.
-    pub fn reader_of<'a>(&'a self, guest: Guest<'a>) -> PatientReader<'a, WatchedReader<'a, R>> {
-        let service = self.service;
-        let reader = WatchedReader::new(
-            service.rt,
-            service.alloc,
-            guest.stream,
-            &self.pollers,
-            &self.watch,
-        );
-        PatientReader::new(reader, &self.clients, self.until.idle())
-    }
-
     /// Serves a client that speaks Redis's protocol.
     fn serve_redis(&self, guest: Guest<'_>) -> Ended {
         let service = self.service;
@@ -124,7 +110,8 @@ impl<'s, 'r, J: Naming, S: EntryStore, R: Host, L: Log, W: Write> Server<'s, 'r,
             Ok(idle) => idle,
             Err(none) => return self.refuse(guest, none),
         };
-        let mut reader = self.reader_of(guest);
+        let polling = PollingReader::new(guest.stream, &self.pollers);
+        let mut reader = PatientReader::new(polling, &self.clients, self.until.idle());
         let mut writer = PatientWriter::new(guest.stream);
         let server = ServerInfo {
             number: guest.number,
@@ -276,19 +263,6 @@ impl<
         Ok(())
     }
 
-    /// Starts the thread that watches connections.
-    fn start_watcher<E: 't>(
-        &'t self,
-        scope: &'t Scope<'t, E>,
-        watcher: Watcher,
-    ) -> Result<(), Finish> {
-        let rt = self.service.rt;
-        match scope.spawn(move || watcher.run(rt, &self.watch)) {
-            Ok(_) => Ok(()),
-            Err(_) => Err(Finish::OutOfMemory),
-        }
-    }
-
     /// Waits for the connections that are open, or ends them if the server was stopped.
     fn end_clients(&self) {
         match self.until {
@@ -303,11 +277,9 @@ impl<
         setup: &'t ServerSetup<'t, L>,
         scope: &'t Scope<'t, E>,
         stores: Vec<S>,
-        watcher: Watcher,
     ) -> Result<(), Finish> {
         self.service
             .start(scope, setup.plan.nodes.as_slice(), stores)?;
-        self.start_watcher(scope, watcher)?;
         self.lines.begin(self.service.rt, setup.doors)?;
         self.start_operators(scope)?;
         let accepted = self.accept_at(scope, setup.doors);
@@ -331,12 +303,10 @@ fn serve_ring<
     server: &'t Server<'s, 'r, J, S, R, L, W>,
     setup: &'t ServerSetup<'t, L>,
     stores: Vec<S>,
-    watcher: Watcher,
 ) -> Result<(), Finish> {
     thread::scope(thread::scope_env(), starter, |scope| {
-        let ended = server.start_and_accept(setup, scope, stores, watcher);
+        let ended = server.start_and_accept(setup, scope, stores);
         server.end_operators();
-        server.watch.end();
         server.service.ring.stop();
         ended
     })
@@ -386,7 +356,6 @@ impl<S: EntryStore + Send, R: Host, L: Log + Sync, W: Write + Send> Serving<'_, 
         let pool = CallerPool::new(setup.alloc, ring, kept)?;
         let ServerStores { nodes, spares } = stores;
         let desk = Desk::new(rt, setup, spares)?;
-        let (watch, watcher) = Watch::new(rt, setup.alloc)?;
         let server = Server {
             service: &service,
             pool,
@@ -394,13 +363,12 @@ impl<S: EntryStore + Send, R: Host, L: Log + Sync, W: Write + Send> Serving<'_, 
             tally: Tally::new(),
             clients: Clients::new(setup.alloc),
             pollers: Pollers::for_processors(rt),
-            watch,
             lines,
             until,
             numbers: AtomicU64::new(0),
             desk,
         };
-        let served = serve_ring(rt, &server, setup, nodes, watcher);
+        let served = serve_ring(rt, &server, setup, nodes);
         server.drop_sessions();
         let callers = server.pool.into_callers();
         served?;

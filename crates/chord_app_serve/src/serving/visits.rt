@@ -4,7 +4,7 @@ use crate::serving::asker::RingAsker;
 use crate::serving::idle::IdleCaller;
 use crate::serving::server::{Guest, Server};
 use crate::serving::service::RingSession;
-use chord_app_sockets::{Ended, Host, PatientReader, PatientWriter, prepare};
+use chord_app_sockets::{Ended, Host, PatientReader, PatientWriter, PollingReader, prepare};
 use chord_serve::{
     BeginRefusal, ClientSession, Parted, Resumed, Served, greet, tell_no_session,
     tell_session_known,
@@ -107,7 +107,8 @@ impl<'s, 'r, J: Naming, S: EntryStore, R: Host, L: Log, W: Write> Server<'s, 'r,
         guest: Guest<'_>,
         frames: SessionFrames,
     ) -> Ended {
-        let mut reader = self.reader_of(guest);
+        let polling = PollingReader::new(guest.stream, &self.pollers);
+        let mut reader = PatientReader::new(polling, &self.clients, self.until.idle());
         let mut writer = PatientWriter::new(guest.stream);
         let (served, caller) = self.service.serve_frames(
             idle,
@@ -192,7 +193,8 @@ impl<'s, 'r, J: Naming, S: EntryStore, R: Host, L: Log, W: Write> Server<'s, 'r,
         guest: Guest<'_>,
         frames: SessionFrames,
     ) -> Ended {
-        let mut reader = self.reader_of(guest);
+        let polling = PollingReader::new(guest.stream, &self.pollers);
+        let mut reader = PatientReader::new(polling, &self.clients, self.until.idle());
         let mut writer = PatientWriter::new(guest.stream);
         let (served, parted) = self
             .service
