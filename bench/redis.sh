@@ -5,9 +5,11 @@
 # with its module redis, is skipped with a word where they are missing; it installs nothing. Rows of
 # the last part are medians of requests a second as multiples of Redis's in the same round, over 16
 # nodes: of keys that lie on all nodes, and of one key, which lies on one. KINDS names some of these
-# rows. THREADS gives redis-benchmark this number of threads; without it, it has one. A ring does
-# 1,000 rounds of upkeep once its nodes are there, so its clients begin REST seconds later (3). It
-# ends with a status other than 0 where a client was answered otherwise than it says.
+# rows, and SHAPES the cells, as "1 1,16 1": how many connections, and commands in flight on each.
+# THREADS gives redis-benchmark this number of threads; without it, it has one. With PROCESSES=1 each
+# connection is that of a redis-benchmark of its own, and a rate is that of all, with their starts.
+# A ring does 1,000 rounds of upkeep once its nodes are there, so its clients begin REST seconds
+# later (3). It ends with a status other than 0 where a client was answered otherwise than it says.
 set -euo pipefail
 cd "$(dirname "$0")/.."
 requests=${1-100000} rounds=${2-3} port=17600
@@ -147,6 +149,20 @@ fill() {
     } | redis-cli -p $port --pipe > /dev/null
 }
 
+# ask_apart CLIENTS FLIGHT KEYS WORD..: the requests a second of this number of clients, each a
+# process.
+ask_apart() {
+    local clients=$1 flight=$2 keys=$3 each=$((requests / $1)) begun pids=''
+    shift 3
+    begun=$(date +%s%N)
+    for _ in $(seq "$clients"); do
+        redis-benchmark -p $port -n $each -r "$keys" -c 1 -P "$flight" --csv "$@" > /dev/null &
+        pids+=" $!"
+    done
+    wait $pids
+    awk -v done=$((each * clients)) -v taken=$(($(date +%s%N) - begun)) 'BEGIN { printf "%.0f\n", done * 1e9 / taken }'
+}
+
 # cell SERVER KIND CLIENTS FLIGHT: sets `rate` to the requests a second that redis-benchmark says.
 cell() {
     local words keys=10000
@@ -161,13 +177,18 @@ cell() {
     SISMEMBER-one-key) words='SISMEMBER one a' ;;
     esac
     fill
-    rate=$(redis-benchmark -p $port -n "$requests" -r $keys -c "$3" -P "$4" ${THREADS:+--threads $THREADS} --csv $words | tail -1 | cut -d, -f2 | tr -d '"')
+    if [ -n "${PROCESSES-}" ]; then
+        rate=$(ask_apart "$3" "$4" $keys $words)
+    else
+        rate=$(redis-benchmark -p $port -n "$requests" -r $keys -c "$3" -P "$4" ${THREADS:+--threads $THREADS} --csv $words | tail -1 | cut -d, -f2 | tr -d '"')
+    fi
     stop
 }
 
 for kind in ${KINDS-SADD SMEMBERS1 SMEMBERS100 SISMEMBER SMEMBERS1-one-key SMEMBERS100-one-key SISMEMBER-one-key}; do
     echo "$kind: as a multiple of Redis (requests a second of Redis)"
-    for shape in "1 1" "16 1" "64 1" "1 16" "16 16" "64 16"; do
+    IFS=, read -ra shapes <<< "${SHAPES-1 1,16 1,64 1,1 16,16 16,64 16}"
+    for shape in "${shapes[@]}"; do
         : > "$room/rows"
         for _ in $(seq "$rounds"); do
             cell redis $kind $shape
