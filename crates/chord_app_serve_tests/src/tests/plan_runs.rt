@@ -126,7 +126,7 @@ fn runs_with_slots<R: Threads + Wait + Clock + Sync>(
     Some(ran)
 }
 
-/// No ring has no slots, or more than 4,096.
+/// A ring has 1 to 4,096 slots.
 #[test]
 fn settings_of_no_ring(rt: HostRuntime) {
     for slots in [0, 4_097] {
