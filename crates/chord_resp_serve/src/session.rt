@@ -1,7 +1,7 @@
 //! The server of a connection that speaks Redis's protocol.
 ghost use Rattle.std.specs.Prelude.{◌≡◌, ◌*◌, List, ℕ};
 ghost use Rattle.std.specs.Io.KnownBytes.{Appends, Consumes};
-ghost use Rattle.chord_serve.specs.BytesRead.{ReadsBetween, most_bytes};
+ghost use Rattle.chord_serve.specs.BytesRead.{ReadsInTurns, most_bytes};
 ghost use Rattle.chord_serve.specs.Ends.{EndsInput};
 ghost use Rattle.chord_resp_serve.specs.Connections.{IsAnswered, first_numbers};
 
@@ -25,8 +25,7 @@ pub fn serve_commands<R: Read, W: Write, A: Asker + Drop, I: Informs>(
 ) -> (Served, A)
     ensures end { EndsInput result.0 (R.remaining reader.new) }
     // Each read takes at least one byte unless the input ends.
-    ensures bytes { ReadsBetween 0 (most_bytes size * turns) (R.remaining reader.old) (R.remaining reader.new) }
-    ensures spent { result.0 ≡ Served.TurnsSpent → ReadsBetween turns (most_bytes size * turns) (R.remaining reader.old) (R.remaining reader.new) }
+    ensures turns { ReadsInTurns (result.0 ≡ Served.TurnsSpent) (most_bytes size) turns (R.remaining reader.old) (R.remaining reader.new) }
     ensures answered { (input : List ℕ) × (output : List ℕ) × Consumes (R.remaining reader.old) (R.remaining reader.new) input
         × IsAnswered A.answers (I.tells server.entry.source.now) server.entry.number result.0 first_numbers asker input output result.1
         × Appends (W.contents writer.old) (W.contents writer.new) output }

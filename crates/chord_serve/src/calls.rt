@@ -5,7 +5,7 @@ ghost use Rattle.chord_map.specs.declared.request.Request.{Request};
 ghost use Rattle.chord_map.specs.Checked.{IsRequest};
 ghost use Rattle.chord_wire.specs.Spelling.{IsWireRequest, frame, request_body, version_1, version_2};
 ghost use Rattle.chord_wire.specs.ReadingReplies.{next_answer};
-ghost use Rattle.chord_serve.specs.BytesRead.{ReadsBetween};
+ghost use Rattle.chord_serve.specs.BytesRead.{ReadsBetween, ReadsInTurns};
 ghost use Rattle.chord_serve.specs.Calls.{ReadsAnswer, ReadsMore, GetsAnswer, IsCalled};
 
 use crate::write_bytes::write_bytes;
@@ -82,8 +82,7 @@ pub(crate) fn await_answer<R: Read>(
 ) -> Result<Answer, CallFault>
     ensures gets { GetsAnswer result answers.old (R.remaining reader.old) (R.remaining reader.new) answers.new }
     ensures end { result ≡ Err CallFault.Ended → IsAtEnd (R.remaining reader.new) }
-    ensures bytes { ReadsBetween 0 (4096 * turns) (R.remaining reader.old) (R.remaining reader.new) }
-    ensures spent { result ≡ Err CallFault.TurnsSpent → ReadsBetween turns (4096 * turns) (R.remaining reader.old) (R.remaining reader.new) }
+    ensures turns { ReadsInTurns (result ≡ Err CallFault.TurnsSpent) 4096 turns (R.remaining reader.old) (R.remaining reader.new) }
 {
     if let Some(answer) = look(answers)? {
         return Ok(answer);
@@ -106,8 +105,7 @@ fn exchange<R: Read, W: Write>(
 ) -> Result<Answer, CallFault>
     ensures called { IsCalled result frame.now answers.old (R.remaining reader.old) (R.remaining reader.new) (W.contents writer.old) (W.contents writer.new) answers.new }
     ensures end { result ≡ Err CallFault.Ended → IsAtEnd (R.remaining reader.new) }
-    ensures bytes { ReadsBetween 0 (4096 * turns) (R.remaining reader.old) (R.remaining reader.new) }
-    ensures spent { result ≡ Err CallFault.TurnsSpent → ReadsBetween turns (4096 * turns) (R.remaining reader.old) (R.remaining reader.new) }
+    ensures turns { ReadsInTurns (result ≡ Err CallFault.TurnsSpent) 4096 turns (R.remaining reader.old) (R.remaining reader.new) }
 {
     match write_bytes(writer, frame) {
         Ok(()) => await_answer(reader, answers, turns),
@@ -129,8 +127,7 @@ pub fn call<R: Read, W: Write>(
     requires { IsRequest request.now }
     ensures called { IsCalled result (frame (request_body (version_1 number request.now))) answers.old (R.remaining reader.old) (R.remaining reader.new) (W.contents writer.old) (W.contents writer.new) answers.new }
     ensures end { result ≡ Err CallFault.Ended → IsAtEnd (R.remaining reader.new) }
-    ensures bytes { ReadsBetween 0 (4096 * turns) (R.remaining reader.old) (R.remaining reader.new) }
-    ensures spent { result ≡ Err CallFault.TurnsSpent → ReadsBetween turns (4096 * turns) (R.remaining reader.old) (R.remaining reader.new) }
+    ensures turns { ReadsInTurns (result ≡ Err CallFault.TurnsSpent) 4096 turns (R.remaining reader.old) (R.remaining reader.new) }
 {
     match write_request(alloc, number, request) {
         Ok(frame) => exchange(reader, writer, answers, &frame, turns),
@@ -153,8 +150,7 @@ pub fn call_2<R: Read, W: Write>(
     requires { IsWireRequest (version_2 number floor request.now) }
     ensures called { IsCalled result (frame (request_body (version_2 number floor request.now))) answers.old (R.remaining reader.old) (R.remaining reader.new) (W.contents writer.old) (W.contents writer.new) answers.new }
     ensures end { result ≡ Err CallFault.Ended → IsAtEnd (R.remaining reader.new) }
-    ensures bytes { ReadsBetween 0 (4096 * turns) (R.remaining reader.old) (R.remaining reader.new) }
-    ensures spent { result ≡ Err CallFault.TurnsSpent → ReadsBetween turns (4096 * turns) (R.remaining reader.old) (R.remaining reader.new) }
+    ensures turns { ReadsInTurns (result ≡ Err CallFault.TurnsSpent) 4096 turns (R.remaining reader.old) (R.remaining reader.new) }
 {
     match write_request_2(alloc, number, floor, request) {
         Ok(frame) => exchange(reader, writer, answers, &frame, turns),

@@ -2,7 +2,7 @@
 ghost use Rattle.std.specs.Prelude.{◌≡◌, ◌*◌, ◌++◌, List, ℕ, None, true};
 ghost use Rattle.std.specs.Io.KnownBytes.{Appends, Consumes};
 ghost use Rattle.chord_session.specs.Session.{first_state};
-ghost use Rattle.chord_serve.specs.BytesRead.{ReadsBetween, most_bytes};
+ghost use Rattle.chord_serve.specs.BytesRead.{ReadsInTurns, most_bytes};
 ghost use Rattle.chord_serve.specs.Ends.{EndsInput};
 ghost use Rattle.chord_serve.specs.Served.{IsParted, IsServed};
 
@@ -31,8 +31,7 @@ pub fn serve_session<R: Read, W: Write, A: Asker + Drop>(
     turns: u64,
 ) -> (Served, Parted<A>)
     ensures end { EndsInput result.0 (R.remaining reader.new) }
-    ensures bytes { ReadsBetween 0 (most_bytes size * turns) (R.remaining reader.old) (R.remaining reader.new) }
-    ensures spent { result.0 ≡ Served.TurnsSpent → ReadsBetween turns (most_bytes size * turns) (R.remaining reader.old) (R.remaining reader.new) }
+    ensures turns { ReadsInTurns (result.0 ≡ Served.TurnsSpent) (most_bytes size) turns (R.remaining reader.old) (R.remaining reader.new) }
     ensures served { (input : List ℕ) × (output : List ℕ) × Consumes (R.remaining reader.old) (R.remaining reader.new) input
         × IsParted A.answers true result.0 client.version client.numbers client.asker (frames ++ input) output result.1
         × Appends (W.contents writer.old) (W.contents writer.new) output }
@@ -54,8 +53,7 @@ pub fn serve_plain<R: Read, W: Write, A: Asker + Drop>(
     turns: u64,
 ) -> (Served, A)
     ensures end { EndsInput result.0 (R.remaining reader.new) }
-    ensures bytes { ReadsBetween 0 (most_bytes size * turns) (R.remaining reader.old) (R.remaining reader.new) }
-    ensures spent { result.0 ≡ Served.TurnsSpent → ReadsBetween turns (most_bytes size * turns) (R.remaining reader.old) (R.remaining reader.new) }
+    ensures turns { ReadsInTurns (result.0 ≡ Served.TurnsSpent) (most_bytes size) turns (R.remaining reader.old) (R.remaining reader.new) }
     ensures served { (input : List ℕ) × (output : List ℕ) × Consumes (R.remaining reader.old) (R.remaining reader.new) input
         × IsServed A.answers result.0 None first_state asker (frames ++ input) output result.1
         × Appends (W.contents writer.old) (W.contents writer.new) output }
@@ -79,8 +77,7 @@ pub fn serve<R: Read, W: Write, A: Asker + Drop>(
 ) -> (Served, A)
     ensures end { EndsInput result.0 (R.remaining reader.new) }
     // Each read takes at least one byte unless the input ends.
-    ensures bytes { ReadsBetween 0 (most_bytes size * turns) (R.remaining reader.old) (R.remaining reader.new) }
-    ensures spent { result.0 ≡ Served.TurnsSpent → ReadsBetween turns (most_bytes size * turns) (R.remaining reader.old) (R.remaining reader.new) }
+    ensures turns { ReadsInTurns (result.0 ≡ Served.TurnsSpent) (most_bytes size) turns (R.remaining reader.old) (R.remaining reader.new) }
     ensures served { (input : List ℕ) × (output : List ℕ) × Consumes (R.remaining reader.old) (R.remaining reader.new) input
         × IsServed A.answers result.0 None first_state asker input output result.1
         × Appends (W.contents writer.old) (W.contents writer.new) output }

@@ -2,7 +2,7 @@
 ghost use Rattle.std.specs.Prelude.{◌≡◌, ◌≢◌, ◌*◌, Ok, Err, None};
 ghost use Rattle.std.specs.Io.KnownBytes.{IsAtEnd};
 ghost use Rattle.chord_wire.specs.SessionReading.{next_session_answer};
-ghost use Rattle.chord_serve.specs.BytesRead.{ReadsBetween};
+ghost use Rattle.chord_serve.specs.BytesRead.{ReadsBetween, ReadsInTurns};
 ghost use Rattle.chord_serve.specs.Told.{LooksFor, LooksOn, Hears, Tells};
 
 use crate::calls::CallFault;
@@ -67,8 +67,7 @@ fn look_on<R: Read>(
 fn hear<R: Read>(alloc: Global, reader: &mut R, turns: u64) -> Result<Told, CallFault>
     ensures hears { Hears result (R.remaining reader.old) (R.remaining reader.new) }
     ensures end { result ≡ Err CallFault.Ended → IsAtEnd (R.remaining reader.new) }
-    ensures bytes { ReadsBetween 0 (4096 * turns) (R.remaining reader.old) (R.remaining reader.new) }
-    ensures spent { result ≡ Err CallFault.TurnsSpent → ReadsBetween turns (4096 * turns) (R.remaining reader.old) (R.remaining reader.new) }
+    ensures turns { ReadsInTurns (result ≡ Err CallFault.TurnsSpent) 4096 turns (R.remaining reader.old) (R.remaining reader.new) }
 {
     let mut frames = SessionAnswers::new(alloc);
     for _ in 0..turns {
@@ -90,8 +89,7 @@ pub(crate) fn be_told<R: Read, W: Write>(
 ) -> Result<Told, CallFault>
     ensures tells { Tells result frame.now (R.remaining reader.old) (R.remaining reader.new) (W.contents writer.old) (W.contents writer.new) }
     ensures end { result ≡ Err CallFault.Ended → IsAtEnd (R.remaining reader.new) }
-    ensures bytes { ReadsBetween 0 (4096 * turns) (R.remaining reader.old) (R.remaining reader.new) }
-    ensures spent { result ≡ Err CallFault.TurnsSpent → ReadsBetween turns (4096 * turns) (R.remaining reader.old) (R.remaining reader.new) }
+    ensures turns { ReadsInTurns (result ≡ Err CallFault.TurnsSpent) 4096 turns (R.remaining reader.old) (R.remaining reader.new) }
 {
     match write_bytes(writer, frame) {
         Ok(()) => hear(alloc, reader, turns),

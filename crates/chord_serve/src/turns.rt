@@ -1,7 +1,7 @@
 //! The loop of every protocol: read, answer what is whole, write.
 ghost use Rattle.std.specs.Prelude.{◌≡◌, ◌≢◌, ◌<◌, ◌*◌, [], List, ℕ, Ok, Err, true, IfErr, OnOk};
 ghost use Rattle.std.specs.Io.KnownBytes.{Appends, Consumes};
-ghost use Rattle.chord_serve.specs.BytesRead.{ReadsBetween, most_bytes};
+ghost use Rattle.chord_serve.specs.BytesRead.{ReadsBetween, ReadsInTurns, most_bytes};
 ghost use Rattle.chord_serve.specs.Conversing.{AnswersPart, SendsPart, AnswersAll, TakesTurn, Converses};
 ghost use Rattle.chord_serve.specs.Ends.{IsStop, EndsInput};
 
@@ -112,8 +112,7 @@ pub fn converse<D: Dialogue, R: Read, W: Write>(
     requires { D.waits dialogue.old }
     ensures end { EndsInput result (R.remaining reader.new) }
     // Each read takes at least one byte unless the input ends.
-    ensures bytes { ReadsBetween 0 (most_bytes size * turns) (R.remaining reader.old) (R.remaining reader.new) }
-    ensures spent { result ≡ Served.TurnsSpent → ReadsBetween turns (most_bytes size * turns) (R.remaining reader.old) (R.remaining reader.new) }
+    ensures turns { ReadsInTurns (result ≡ Served.TurnsSpent) (most_bytes size) turns (R.remaining reader.old) (R.remaining reader.new) }
     ensures conversed { (input : List ℕ) × (output : List ℕ) × Consumes (R.remaining reader.old) (R.remaining reader.new) input
         × Converses D.hears D.says D.stops D.waits D.between result dialogue.old input output dialogue.new
         × Appends (W.contents writer.old) (W.contents writer.new) output }
@@ -140,8 +139,7 @@ pub fn converse_further<D: Dialogue, R: Read, W: Write>(
     turns: u64,
 ) -> Served
     ensures end { EndsInput result (R.remaining reader.new) }
-    ensures bytes { ReadsBetween 0 (most_bytes size * turns) (R.remaining reader.old) (R.remaining reader.new) }
-    ensures spent { result ≡ Served.TurnsSpent → ReadsBetween turns (most_bytes size * turns) (R.remaining reader.old) (R.remaining reader.new) }
+    ensures turns { ReadsInTurns (result ≡ Served.TurnsSpent) (most_bytes size) turns (R.remaining reader.old) (R.remaining reader.new) }
     ensures conversed { (input : List ℕ) × (output : List ℕ) × Consumes (R.remaining reader.old) (R.remaining reader.new) input
         × Converses D.hears D.says D.stops D.waits D.between result dialogue.old input output dialogue.new
         × Appends (W.contents writer.old) (W.contents writer.new) output }

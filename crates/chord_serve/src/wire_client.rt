@@ -4,7 +4,7 @@ ghost use Rattle.std.specs.Io.KnownBytes.{IsAtEnd};
 ghost use Rattle.chord_map.specs.Checked.{IsRequest};
 ghost use Rattle.chord_wire.specs.Spelling.{IsWireRequest};
 ghost use Rattle.chord_wire.specs.Streams.{request_frame};
-ghost use Rattle.chord_serve.specs.BytesRead.{ReadsBetween};
+ghost use Rattle.chord_serve.specs.BytesRead.{ReadsInTurns};
 ghost use Rattle.chord_serve.specs.HasWindow.{HasWindow};
 ghost use Rattle.chord_serve.specs.InFlight.{new_client, floor_under, floor_of, number_in, callers_spent, is_for, is_full, next_of, place_of, with_sent, SendIs, AgainIs, JudgedIs, ReceiveIs};
 
@@ -302,8 +302,7 @@ impl WireClient {
     ) -> Result<(u64, Answer), ReceiveFault>
         ensures received { ReceiveIs result self.old (R.remaining reader.old) (R.remaining reader.new) self.new }
         ensures end { result ≡ Err (ReceiveFault.Call CallFault.Ended) → IsAtEnd (R.remaining reader.new) }
-        ensures bytes { ReadsBetween 0 (4096 * turns) (R.remaining reader.old) (R.remaining reader.new) }
-        ensures spent { result ≡ Err (ReceiveFault.Call CallFault.TurnsSpent) → ReadsBetween turns (4096 * turns) (R.remaining reader.old) (R.remaining reader.new) }
+        ensures turns { ReadsInTurns (result ≡ Err (ReceiveFault.Call CallFault.TurnsSpent)) 4096 turns (R.remaining reader.old) (R.remaining reader.new) }
     {
         if self.awaited.is_empty() {
             return Err(ReceiveFault::Idle);

@@ -6,7 +6,7 @@ ghost use Rattle.chord_app_serve.specs.Asked.{AskerSight, first_asker};
 ghost use Rattle.chord_app_serve.specs.InSession.{IsInSession};
 ghost use Rattle.chord_app_sockets.specs.Until.{read_size, turns_of};
 ghost use Rattle.chord_resp_serve.specs.Connections.{IsAnswered, first_numbers};
-ghost use Rattle.chord_serve.specs.BytesRead.{ReadsBetween, most_bytes};
+ghost use Rattle.chord_serve.specs.BytesRead.{ReadsInTurns, most_bytes};
 ghost use Rattle.chord_serve.specs.Ends.{EndsInput};
 ghost use Rattle.chord_serve.specs.Served.{IsServed};
 ghost use Rattle.chord_session.specs.Session.{first_state};
@@ -99,8 +99,7 @@ impl<'r, J: Naming, S: EntryStore, R: Wait + Clock, L: Log> Service<'r, J, S, R,
         until: Until<'_>,
     ) -> (Served, RingClient<'r, J, S>)
         ensures end { EndsInput result.0 (I.remaining reader.new) }
-        ensures bytes { ReadsBetween 0 (most_bytes (read_size until.entry) * turns_of until.entry) (I.remaining reader.old) (I.remaining reader.new) }
-        ensures spent { result.0 ≡ Served.TurnsSpent → ReadsBetween (turns_of until.entry) (most_bytes (read_size until.entry) * turns_of until.entry) (I.remaining reader.old) (I.remaining reader.new) }
+        ensures turns { ReadsInTurns (result.0 ≡ Served.TurnsSpent) (most_bytes (read_size until.entry)) (turns_of until.entry) (I.remaining reader.old) (I.remaining reader.new) }
         // Each request is asked of this caller, in order, and answered by what it was told.
         ensures served { (input : List ℕ) × (output : List ℕ) × (last : AskerSight) × Consumes (I.remaining reader.old) (I.remaining reader.new) input
             × IsServed AnswersBy result.0 None first_state (first_asker idle.entry.caller via) (frames ++ input) output last
@@ -131,8 +130,7 @@ impl<'r, J: Naming, S: EntryStore, R: Wait + Clock, L: Log> Service<'r, J, S, R,
         until: Until<'_>,
     ) -> (Served, Parted<RingAsker<'r, J, S, R>>)
         ensures end { EndsInput result.0 (I.remaining reader.new) }
-        ensures bytes { ReadsBetween 0 (most_bytes (read_size until.entry) * turns_of until.entry) (I.remaining reader.old) (I.remaining reader.new) }
-        ensures spent { result.0 ≡ Served.TurnsSpent → ReadsBetween (turns_of until.entry) (most_bytes (read_size until.entry) * turns_of until.entry) (I.remaining reader.old) (I.remaining reader.new) }
+        ensures turns { ReadsInTurns (result.0 ≡ Served.TurnsSpent) (most_bytes (read_size until.entry)) (turns_of until.entry) (I.remaining reader.old) (I.remaining reader.new) }
         // Each request is asked of the session's caller, in order, and answered by what it was told.
         ensures parted { (input : List ℕ) × (output : List ℕ) × Consumes (I.remaining reader.old) (I.remaining reader.new) input
             × IsInSession result.0 client.entry frames input output result.1
@@ -162,8 +160,7 @@ impl<'r, J: Naming, S: EntryStore, R: Wait + Clock, L: Log> Service<'r, J, S, R,
         until: Until<'_>,
     ) -> (Served, RingClient<'r, J, S>)
         ensures end { EndsInput result.0 (I.remaining reader.new) }
-        ensures bytes { ReadsBetween 0 (most_bytes (read_size until.entry) * turns_of until.entry) (I.remaining reader.old) (I.remaining reader.new) }
-        ensures spent { result.0 ≡ Served.TurnsSpent → ReadsBetween (turns_of until.entry) (most_bytes (read_size until.entry) * turns_of until.entry) (I.remaining reader.old) (I.remaining reader.new) }
+        ensures turns { ReadsInTurns (result.0 ≡ Served.TurnsSpent) (most_bytes (read_size until.entry)) (turns_of until.entry) (I.remaining reader.old) (I.remaining reader.new) }
         // Each request of a command is asked of this caller, in order, and answered by what it was
         // told.
         ensures answered { (input : List ℕ) × (output : List ℕ) × (last : AskerSight) × Consumes (I.remaining reader.old) (I.remaining reader.new) input

@@ -4,7 +4,7 @@ ghost use Rattle.std.specs.List.{All, flat_map};
 ghost use Rattle.std.specs.Io.KnownBytes.{IsAtEnd};
 ghost use Rattle.chord_wire.specs.Spelling.{IsWireRequest};
 ghost use Rattle.chord_wire.specs.Streams.{request_frame};
-ghost use Rattle.chord_serve.specs.BytesRead.{ReadsBetween};
+ghost use Rattle.chord_serve.specs.BytesRead.{ReadsInTurns};
 ghost use Rattle.chord_serve.specs.Resuming.{behind_loss, awaited_frames, refusal_of, opened_by, closed_by, OpenIs, BeginIs, ResumeIs, EndIs, CloseIs};
 
 use crate::calls::CallFault;
@@ -130,8 +130,7 @@ fn end_session<R: Read, W: Write>(
 ) -> Result<(), CloseFault>
     ensures ends { EndIs result (R.remaining reader.old) (R.remaining reader.new) (W.contents writer.old) (W.contents writer.new) }
     ensures end { result ≡ Err (CloseFault.Call CallFault.Ended) → IsAtEnd (R.remaining reader.new) }
-    ensures bytes { ReadsBetween 0 (4096 * turns) (R.remaining reader.old) (R.remaining reader.new) }
-    ensures spent { result ≡ Err (CloseFault.Call CallFault.TurnsSpent) → ReadsBetween turns (4096 * turns) (R.remaining reader.old) (R.remaining reader.new) }
+    ensures turns { ReadsInTurns (result ≡ Err (CloseFault.Call CallFault.TurnsSpent)) 4096 turns (R.remaining reader.old) (R.remaining reader.new) }
 {
     let Ok(frame) = write_close(alloc) else {
         return Err(CloseFault::Call(CallFault::Memory));
@@ -179,8 +178,7 @@ impl WireClient {
     ) -> Result<(), OpenFault>
         ensures opens { OpenIs result opening self.now (R.remaining reader.old) (R.remaining reader.new) (W.contents writer.old) (W.contents writer.new) }
         ensures end { result ≡ Err (OpenFault.Call CallFault.Ended) → IsAtEnd (R.remaining reader.new) }
-        ensures bytes { ReadsBetween 0 (4096 * turns) (R.remaining reader.old) (R.remaining reader.new) }
-        ensures spent { result ≡ Err (OpenFault.Call CallFault.TurnsSpent) → ReadsBetween turns (4096 * turns) (R.remaining reader.old) (R.remaining reader.new) }
+        ensures turns { ReadsInTurns (result ≡ Err (OpenFault.Call CallFault.TurnsSpent)) 4096 turns (R.remaining reader.old) (R.remaining reader.new) }
     {
         let alloc = *self.awaited.allocator();
         let Ok(frame) = write_open(alloc, opening) else {
@@ -204,8 +202,7 @@ impl WireClient {
     ) -> Result<(), BeginFault>
         ensures begins { BeginIs result token self.old (R.remaining reader.old) (R.remaining reader.new) (W.contents writer.old) (W.contents writer.new) self.new }
         ensures end { result ≡ Err (BeginFault.Open (OpenFault.Call CallFault.Ended)) → IsAtEnd (R.remaining reader.new) }
-        ensures bytes { ReadsBetween 0 (4096 * turns) (R.remaining reader.old) (R.remaining reader.new) }
-        ensures spent { result ≡ Err (BeginFault.Open (OpenFault.Call CallFault.TurnsSpent)) → ReadsBetween turns (4096 * turns) (R.remaining reader.old) (R.remaining reader.new) }
+        ensures turns { ReadsInTurns (result ≡ Err (BeginFault.Open (OpenFault.Call CallFault.TurnsSpent))) 4096 turns (R.remaining reader.old) (R.remaining reader.new) }
     {
         if self.version != 2 {
             return Err(BeginFault::Version);
@@ -237,8 +234,7 @@ impl WireClient {
     ) -> Result<(), ResumeFault>
         ensures resumes { ResumeIs result token self.old (R.remaining reader.old) (R.remaining reader.new) (W.contents writer.old) (W.contents writer.new) self.new }
         ensures end { result ≡ Err (ResumeFault.Open (OpenFault.Call CallFault.Ended)) → IsAtEnd (R.remaining reader.new) }
-        ensures bytes { ReadsBetween 0 (4096 * turns) (R.remaining reader.old) (R.remaining reader.new) }
-        ensures spent { result ≡ Err (ResumeFault.Open (OpenFault.Call CallFault.TurnsSpent)) → ReadsBetween turns (4096 * turns) (R.remaining reader.old) (R.remaining reader.new) }
+        ensures turns { ReadsInTurns (result ≡ Err (ResumeFault.Open (OpenFault.Call CallFault.TurnsSpent))) 4096 turns (R.remaining reader.old) (R.remaining reader.new) }
     {
         if self.version != 2 {
             return Err(ResumeFault::Version);
@@ -269,8 +265,7 @@ impl WireClient {
     ) -> Result<(), CloseFault>
         ensures closes { CloseIs result self.now (R.remaining reader.old) (R.remaining reader.new) (W.contents writer.old) (W.contents writer.new) }
         ensures end { result ≡ Err (CloseFault.Call CallFault.Ended) → IsAtEnd (R.remaining reader.new) }
-        ensures bytes { ReadsBetween 0 (4096 * turns) (R.remaining reader.old) (R.remaining reader.new) }
-        ensures spent { result ≡ Err (CloseFault.Call CallFault.TurnsSpent) → ReadsBetween turns (4096 * turns) (R.remaining reader.old) (R.remaining reader.new) }
+        ensures turns { ReadsInTurns (result ≡ Err (CloseFault.Call CallFault.TurnsSpent)) 4096 turns (R.remaining reader.old) (R.remaining reader.new) }
     {
         if self.version != 2 {
             return Err(CloseFault::Version);

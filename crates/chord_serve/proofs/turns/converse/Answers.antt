@@ -36,24 +36,20 @@ returns-in-Err-clause-conversed g c =
     let turn = turn_then d.hears d.says d.stops d.waits d.between (Err c.in-Err.end) c.args.dialogue.now c.loop.dialogue new.dialogue (left c.args.reader.now) (left c.loop.reader) (left new.reader) (held c.args.writer.now) (held c.loop.writer) (held new.writer) c.loop.invariant.so c.in-Err.ensures.turn in
     (turn.0, turn.1, turn.2, inl turn.3, turn.4)
 
-pub returns-in-Err-clause-bytes : goal.returns-in-Err-clause-bytes
-returns-in-Err-clause-bytes g c =
+pub returns-in-Err-clause-turns : goal.returns-in-Err-clause-turns
+returns-in-Err-clause-turns g c =
     let left = g.R.Read.remaining in
-    let new = c.take_turn.new in
-    reads_last c.args.size c.loop.counter c.args.turns (left c.args.reader.now) (left c.loop.reader) (left new.reader) c.loop-test.true c.loop.invariant.reads (rw c.loop.invariant.sized at c.in-Err.ensures.bytes)
+    let new = c.take_turn.new in (
+      reads_last c.args.size c.loop.counter c.args.turns (left c.args.reader.now) (left c.loop.reader) (left new.reader) c.loop-test.true c.loop.invariant.reads (rw c.loop.invariant.sized at c.in-Err.ensures.bytes),
+      λ e. absurd (c.in-Err.ensures.not_spent (ap (λ (s : Served). Err s) e)),
+    )
 
-pub returns-in-Err-clause-spent : goal.returns-in-Err-clause-spent
-returns-in-Err-clause-spent g c = λ e. absurd (c.in-Err.ensures.not_spent (ap (λ (s : Served). Err s) e))
-
-pub returns-clause-bytes : goal.returns-clause-bytes
-returns-clause-bytes g c =
-    let left = g.R.Read.remaining in
-    reads_done c.args.size c.loop.counter 0 c.args.turns (left c.args.reader.now) (left c.loop.reader) (omega arith) (omega arith) c.loop.invariant.reads
-
-pub returns-clause-spent : goal.returns-clause-spent
-returns-clause-spent g c = λ e.
-    let left = g.R.Read.remaining in
-    reads_done c.args.size c.loop.counter c.args.turns c.args.turns (left c.args.reader.now) (left c.loop.reader) (omega (arith, c.loop-test.false)) (omega arith) c.loop.invariant.reads
+pub returns-clause-turns : goal.returns-clause-turns
+returns-clause-turns g c =
+    let left = g.R.Read.remaining in (
+      reads_done c.args.size c.loop.counter 0 c.args.turns (left c.args.reader.now) (left c.loop.reader) (omega arith) (omega arith) c.loop.invariant.reads,
+      λ e. reads_done c.args.size c.loop.counter c.args.turns c.args.turns (left c.args.reader.now) (left c.loop.reader) (omega (arith, c.loop-test.false)) (omega arith) c.loop.invariant.reads,
+    )
 
 pub returns-in_default-clause-conversed : goal.returns-in_default-clause-conversed
 returns-in_default-clause-conversed g c =
