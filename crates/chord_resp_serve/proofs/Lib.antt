@@ -1,3 +1,4 @@
 pub mod Outputs
 pub mod Steps
 pub mod Sessions
+pub mod Parts

@@ -1,5 +1,5 @@
 -- What a connection answered for the bytes that it read. Source: our own.
-use Rattle.std.specs.Prelude.{◌≡◌, ◌⊎◌, ℕ, Bool, true, false, List, [], ◌∷◌, ◌++◌, Option, Some, None, Result, Ok, Err}
+use Rattle.std.specs.Prelude.{◌≡◌, ◌⊎◌, ℕ, Bool, true, false, List, [], ◌∷◌, ◌++◌, None, Result, Ok, Err}
 use Rattle.std.specs.declared.alloc.AllocError.{AllocError}
 use Rattle.chord_serve.specs.declared.asker.Asked.{Asked}
 use Rattle.chord_serve.specs.declared.served.Served.{Served}
@@ -9,7 +9,7 @@ use Rattle.chord_resp.specs.declared.reading.protocol_error.ProtocolError.{Proto
 use Rattle.chord_resp.specs.declared.reading.word.Word.{Word}
 use Rattle.chord_resp.specs.declared.table.refusal.Refusal.TheVariants as refusal
 use Rattle.chord_resp.specs.declared.table.verb.Verb.TheVariants as verb
-use Rattle.chord_resp.specs.Machine.{State, start}
+use Rattle.chord_resp.specs.Machine.{State}
 use Rattle.chord_resp.specs.Reading.{Reading, Open, Broken, reading, with_commands, is_at_start}
 use Rattle.chord_resp.specs.Answers.{error}
 use Rattle.chord_resp.specs.Refusals.{refusal_text}
@@ -61,11 +61,22 @@ module _ {A : Type 0} (answers : A → Question → Asked → A → Type 0) (tel
   AnswersEach (words ∷ more) n a output n' a' = (bytes : List ℕ) × (rest : List ℕ) × (m : Numbers) × (b : A)
       × AnswersOne words (Ok flow.GoesOn) n a bytes m b × AnswersEach more m b rest n' a' × (output ≡ bytes ++ rest)
 
+  -- the next command may have asked its questions, and is not answered
+  pub record AsksNext (next : Reading) (n : Numbers) (a : A) (a' : A) : Type 0 where
+    pub words : List Word
+    pub rest : Reading
+    pub next_is : next ≡ with_commands (words ∷ []) rest
+    pub refused : AllocError
+    pub numbers : Numbers
+    pub asked : AnswersOne words (Err refused) n a [] numbers a'
+
+-- from this state of the reader on
+module _ {A : Type 0} (answers : A → Question → Asked → A → Type 0) (tells : List ℕ → Type 0) (number : ℕ) (from : State) where
   -- the first commands of the bytes are answered, and this is still to be read
   pub record AnswersSome (n : Numbers) (a : A) (input output : List ℕ) (next : Reading) (n' : Numbers) (a' : A) : Type 0 where
     pub commands : List (List Word)
-    pub spelled : reading start input ≡ with_commands commands next
-    pub answered : AnswersEach commands n a output n' a'
+    pub spelled : reading from input ≡ with_commands commands next
+    pub answered : AnswersEach answers tells number commands n a output n' a'
 
   -- all commands of the bytes are answered; the next one has come so far
   pub record AnswersWhole (n : Numbers) (a : A) (input output : List ℕ) (state : State) (a' : A) : Type 0 where
@@ -90,17 +101,8 @@ module _ {A : Type 0} (answers : A → Question → Asked → A → Type 0) (tel
     pub asker : A
     pub some : AnswersSome n a input said (with_commands (words ∷ []) next) between asker
     pub numbers : Numbers
-    pub last : AnswersOne words (Ok flow.Quits) between asker bytes numbers a'
+    pub last : AnswersOne answers tells number words (Ok flow.Quits) between asker bytes numbers a'
     pub output_is : output ≡ said ++ bytes
-
-  -- the next command may have asked its questions, and is not answered
-  pub record AsksNext (next : Reading) (n : Numbers) (a : A) (a' : A) : Type 0 where
-    pub words : List Word
-    pub rest : Reading
-    pub next_is : next ≡ with_commands (words ∷ []) rest
-    pub refused : AllocError
-    pub numbers : Numbers
-    pub asked : AnswersOne words (Err refused) n a [] numbers a'
 
   -- memory ran out
   pub record RunsOut (n : Numbers) (a : A) (input output : List ℕ) (a' : A) : Type 0 where
@@ -108,7 +110,7 @@ module _ {A : Type 0} (answers : A → Question → Asked → A → Type 0) (tel
     pub between : Numbers
     pub asker : A
     pub some : AnswersSome n a input output next between asker
-    pub last : (a' ≡ asker) ⊎ AsksNext next between asker a'
+    pub last : (a' ≡ asker) ⊎ AsksNext answers tells number next between asker a'
 
   -- a command, or bytes that are none, ended the connection
   abbrev pub IsEnded : Served → Numbers → A → List ℕ → List ℕ → A → Type 0
@@ -125,9 +127,9 @@ module _ {A : Type 0} (answers : A → Question → Asked → A → Type 0) (tel
     pub done : ((next : Reading) × (numbers : Numbers) × AnswersSome n a input whole next numbers a')
         ⊎ ((end : Served) × IsEnded end n a input whole a')
 
-  -- What a connection read and wrote when it ended in this way: the answers to the commands that
-  -- its input spells, each question asked once and in order. At Write it wrote a prefix of its
-  -- output.
+  -- What a connection read and wrote from this state on, when it ended in this way: the answers to
+  -- the commands that its input spells, each question asked once and in order. At Write it wrote a
+  -- prefix of its output.
   abbrev pub IsAnswered : Served → Numbers → A → List ℕ → List ℕ → A → Type 0
   IsAnswered served.Ended n a input output a' = (state : State) × (is_at_start state.phase ≡ true) × AnswersWhole n a input output state a'
   IsAnswered served.Truncated n a input output a' = (state : State) × (is_at_start state.phase ≡ false) × AnswersWhole n a input output state a'
@@ -135,6 +137,13 @@ module _ {A : Type 0} (answers : A → Question → Asked → A → Type 0) (tel
   IsAnswered served.TurnsSpent n a input output a' = (state : State) × AnswersWhole n a input output state a'
   IsAnswered served.Write n a input output a' = WritesPart n a input output a'
   IsAnswered end n a input output a' = IsEnded end n a input output a'
+
+-- what holds where a connection goes on, since its turns were spent or a read failed, or where it
+-- is over
+abbrev pub GoesOnOr : Served → (goes_on is_over : Type 0) → Type 0
+GoesOnOr served.TurnsSpent goes_on is_over = goes_on
+GoesOnOr served.Read goes_on is_over = goes_on
+GoesOnOr end goes_on is_over = is_over
 
 -- ---- one step
 

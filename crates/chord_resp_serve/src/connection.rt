@@ -82,6 +82,15 @@ impl<'i, A, I> RespConnection<'i, A, I> {
         }
     }
 
+    /// Forgets the bytes that came and are not answered.
+    pub fn forget_rest(&mut self, alloc: Global)
+        ensures bytes { self.new.commands.bytes ≡ [] }
+        ensures server { self.new.server ≡ self.old.server }
+        ensures asker { self.new.asker ≡ self.old.asker }
+    {
+        self.commands = Commands::new(alloc);
+    }
+
     pub fn into_asker(self) -> A
         ensures { result ≡ self.entry.asker }
     {

@@ -3,4 +3,5 @@
 mod askers;
 mod commands;
 mod growths;
+mod parts;
 mod sessions;

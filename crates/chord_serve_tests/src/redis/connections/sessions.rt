@@ -9,10 +9,10 @@ use chord_serve_testkit::{FREE, Limited, Limits};
 use std::alloc::{AllocError, Global};
 
 /// Two commands on a set, of which the first is an array and the second a line, and PING.
-const COMMANDS: &[u8] = b"*3\r\n$4\r\nSADD\r\n$1\r\nk\r\n$1\r\nv\r\nSMEMBERS k\r\nPING\r\n";
+pub const COMMANDS: &[u8] = b"*3\r\n$4\r\nSADD\r\n$1\r\nk\r\n$1\r\nv\r\nSMEMBERS k\r\nPING\r\n";
 
 /// What they are answered.
-const ANSWERS: &[u8] = b":1\r\n*1\r\n$1\r\nv\r\n+PONG\r\n";
+pub const ANSWERS: &[u8] = b":1\r\n*1\r\n$1\r\nv\r\n+PONG\r\n";
 
 /// A request that no test asks.
 pub const NO_TROUBLE: Script = Script {
