@@ -1,5 +1,6 @@
 //! Tests, by what they look at.
 
+mod busy;
 mod lasting;
 mod redis;
 mod redis_hostile;

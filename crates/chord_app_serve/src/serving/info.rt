@@ -1,8 +1,8 @@
 //! What Redis's clients are told of the server.
 ghost use Rattle.std.specs.Prelude.{};
 
-use crate::serving::server::Server;
-use chord_live_ring::NodeSight;
+use chord_app_sockets::Clients;
+use chord_live_ring::{NodeSight, Ring};
 use chord_model::Phase;
 use chord_resp_serve::Informs;
 use chord_store::EntryStore;
@@ -32,19 +32,26 @@ fn add_node(alloc: Global, text: &mut Vec<u8>, sight: &NodeSight) -> Result<(), 
     text.extend_from_slice(line.as_bytes())
 }
 
-impl<J: Naming, S: EntryStore, R: Wait, L, W> Informs for Server<'_, '_, J, S, R, L, W> {
+/// What Redis's clients are told of: the connections of clients, and the nodes of a ring.
+#[derive(Drop)]
+pub struct Told<'a, J: Naming, S: EntryStore, R> {
+    pub rt: &'a R,
+    pub ring: &'a Ring<J, S>,
+    pub clients: &'a Clients,
+}
+
+impl<J: Naming, S: EntryStore, R: Wait> Informs for Told<'_, J, S, R> {
     ghost tells = { λ _ _. Unit {0} };
 
     /// The server, its clients, and each node by one look under its lock.
     fn info(&self, alloc: Global) -> Result<Vec<u8>, AllocError> {
-        let service = self.service;
-        let clients = self.clients.count(service.rt);
+        let clients = self.clients.count(self.rt);
         let head = format!(in alloc;
             "# Server\r\nserver:chord\r\nprotocol:2\r\n# Clients\r\nconnected_clients:{clients}\r\n# Nodes\r\n"
         )?;
         let mut text = Vec::from_slice(alloc, head.as_bytes())?;
         for number in 0..u64::MAX {
-            let Some(sight) = service.ring.sight(service.rt, alloc, number)? else {
+            let Some(sight) = self.ring.sight(self.rt, alloc, number)? else {
                 break;
             };
             add_node(alloc, &mut text, &sight)?;

@@ -2,13 +2,16 @@
 ghost use Rattle.std.specs.Prelude.{◌≡◌, IfOk};
 ghost use Rattle.chord_table.specs.Shown.{WholeShown};
 
+use crate::serving::asker::RingAsker;
 use crate::serving::caller_pool::CallerPool;
 use crate::serving::commands::ServerStores;
 use crate::serving::desk::Desk;
 use crate::serving::idle::IdleCaller;
+use crate::serving::info::Told;
 use crate::serving::service::{Service, node_of};
 use crate::serving::sessions::Sessions;
 use crate::serving::tally::Tally;
+use chord_app_loop::{Crowd, Lending, Loops, Visit, serve_lending};
 use chord_app_sockets::{
     Clients, Door, Doors, Ended, Host, Lines, PatientReader, PatientWriter, Pollers, PollingReader,
     Protocol, ServerSetup, Until, close_slowly, prepare,
@@ -27,7 +30,7 @@ use std::net::TcpStream;
 use std::sync::Arc;
 use std::sync::atomic::{AtomicU64, Ordering};
 use std::thread;
-use std::thread::Scope;
+use std::thread::{Scope, Threads};
 use std::time::Duration;
 
 /// The connection of a client.
@@ -54,6 +57,17 @@ pub struct Server<'s, 'r, J: Naming, S: EntryStore, R, L, W> {
     /// How many connections of clients got a number, at all doors.
     numbers: AtomicU64,
     pub desk: Desk<'s, S>,
+}
+
+/// How a server lends connections to event loops.
+type RingLending<'a, 'r, J, S, R> = Lending<'a, RingAsker<'r, J, S, R>, Told<'a, J, S, R>>;
+
+/// How many connections a server lends: none if each is read only so often.
+fn crowd_of(rt: &impl Threads, until: Until<'_>) -> Crowd {
+    match until {
+        Until::Connections(_) => Crowd::new(u64::MAX),
+        Until::Stopped { .. } => Crowd::for_processors(rt),
+    }
 }
 
 /// Tells a client that no caller is left for its connection, in the words of its protocol.
@@ -103,8 +117,13 @@ impl<'s, 'r, J: Naming, S: EntryStore, R: Host, L: Log, W: Write> Server<'s, 'r,
         self.pool.take(rt, guest.via)
     }
 
-    /// Serves a client that speaks Redis's protocol.
-    fn serve_redis(&self, guest: Guest<'_>) -> Ended {
+    /// Serves a client that speaks Redis's protocol, and lends its connection while it is busy.
+    fn serve_redis(
+        &self,
+        lending: &RingLending<'_, 'r, J, S, R>,
+        guest: Guest<'_>,
+        stream: &Arc<TcpStream>,
+    ) -> Ended {
         let service = self.service;
         let idle = match self.caller_for(guest) {
             Ok(idle) => idle,
@@ -115,22 +134,40 @@ impl<'s, 'r, J: Naming, S: EntryStore, R: Host, L: Log, W: Write> Server<'s, 'r,
         let mut writer = PatientWriter::new(guest.stream);
         let server = ServerInfo {
             number: guest.number,
-            source: self,
+            source: lending.source(),
         };
-        let (served, caller) = service.serve_redis(
-            idle,
-            guest.via,
-            server,
+        let waiting = service.meet_redis(idle, guest.via, server);
+        let visit = Visit {
+            number: guest.number,
+            stream,
+            size: self.until.read_size(),
+            turns: self.until.turns(),
+        };
+        let (rt, alloc) = (service.rt, service.alloc);
+        let (served, asker) = serve_lending(
+            rt,
+            alloc,
+            lending,
+            waiting,
+            visit,
             &mut reader,
             &mut writer,
-            self.until,
         );
-        self.pool.give_back(service.rt, caller);
+        match asker {
+            Some(asker) => self.pool.give_back(rt, asker.into_caller()),
+            None => self.pool.pause(),
+        }
         Ended::by(served, reader.is_idle() || writer.is_idle())
     }
 
     /// Serves a client, or tells it that no caller is left.
-    fn serve_client(&self, number: u64, protocol: Protocol, stream: &TcpStream) -> Ended {
+    fn serve_client(
+        &self,
+        lending: &RingLending<'_, 'r, J, S, R>,
+        number: u64,
+        protocol: Protocol,
+        stream: &Arc<TcpStream>,
+    ) -> Ended {
         let guest = Guest {
             number,
             via: node_of(number, self.service.ring.node_count()),
@@ -139,20 +176,31 @@ impl<'s, 'r, J: Naming, S: EntryStore, R: Host, L: Log, W: Write> Server<'s, 'r,
         };
         match protocol {
             Protocol::Frames => self.serve_frames(guest),
-            Protocol::Redis => self.serve_redis(guest),
+            Protocol::Redis => self.serve_redis(lending, guest, stream),
         }
     }
 
     /// Serves a connection to its end. Notes how it ended before closing it.
-    fn run_client(&self, number: u64, protocol: Protocol, stream: Arc<TcpStream>) {
+    fn run_client(
+        &self,
+        lending: &RingLending<'_, 'r, J, S, R>,
+        number: u64,
+        protocol: Protocol,
+        stream: Arc<TcpStream>,
+    ) {
         prepare(&stream, self.until.idle());
-        let ended = self.serve_client(number, protocol, &stream);
+        let ended = self.serve_client(lending, number, protocol, &stream);
         self.tell(number, &ended);
         if ended.is_closed_slowly() {
             close_slowly(self.service.rt, &stream);
         }
         self.clients.forget(self.service.rt, number);
         drop(stream);
+    }
+
+    /// Answers lent connections.
+    fn run_event_loop(&self, lending: &RingLending<'_, 'r, J, S, R>, number: u64) {
+        lending.run(self.service.rt, self.service.alloc, &self.clients, number);
     }
 
     /// Whether the server takes one more connection.
@@ -176,6 +224,7 @@ impl<'s, 'r, J: Naming, S: EntryStore, R: Host, L: Log, W: Write> Server<'s, 'r,
 
 impl<
     't,
+    'a: 't,
     's: 't,
     'r: 's,
     J: Naming + Send + Sync + 't,
@@ -188,6 +237,7 @@ impl<
     fn run_beside<E: 't>(
         &'t self,
         scope: &'t Scope<'t, E>,
+        lending: &'t RingLending<'a, 'r, J, S, R>,
         number: u64,
         protocol: Protocol,
         stream: TcpStream,
@@ -200,7 +250,7 @@ impl<
             return false;
         }
         scope
-            .spawn(move || self.run_client(number, protocol, stream))
+            .spawn(move || self.run_client(lending, number, protocol, stream))
             .is_ok()
     }
 
@@ -209,13 +259,14 @@ impl<
     fn meet<E: 't>(
         &'t self,
         scope: &'t Scope<'t, E>,
+        lending: &'t RingLending<'a, 'r, J, S, R>,
         number: u64,
         protocol: Protocol,
         accepted: io::Result<TcpStream>,
     ) {
         match accepted {
             Ok(stream) => {
-                if !self.run_beside(scope, number, protocol, stream) {
+                if !self.run_beside(scope, lending, number, protocol, stream) {
                     self.tell(number, &Ended::Served(Served::Memory));
                     self.clients.forget(self.service.rt, number);
                 }
@@ -228,7 +279,12 @@ impl<
     }
 
     /// Accepts connections at a door, each on a thread of its own, as long as the server takes any.
-    fn accept<E: 't>(&'t self, scope: &'t Scope<'t, E>, door: Door<'t>) {
+    fn accept<E: 't>(
+        &'t self,
+        scope: &'t Scope<'t, E>,
+        lending: &'t RingLending<'a, 'r, J, S, R>,
+        door: Door<'t>,
+    ) {
         for _ in 0..u64::MAX {
             if !self.takes_more() {
                 return;
@@ -238,26 +294,38 @@ impl<
                 drop(accepted);
                 return;
             };
-            self.meet(scope, number, door.protocol, accepted);
+            self.meet(scope, lending, number, door.protocol, accepted);
         }
     }
 
     /// Accepts connections at the second door, and then wakes the first.
-    fn accept_second<E: 't>(&'t self, scope: &'t Scope<'t, E>, doors: Doors<'t>, door: Door<'t>) {
-        self.accept(scope, door);
+    fn accept_second<E: 't>(
+        &'t self,
+        scope: &'t Scope<'t, E>,
+        lending: &'t RingLending<'a, 'r, J, S, R>,
+        doors: Doors<'t>,
+        door: Door<'t>,
+    ) {
+        self.accept(scope, lending, door);
         doors.first().wake(self.service.rt);
     }
 
     /// Accepts connections at each door. The one that gets the last connection wakes the other.
-    fn accept_at<E: 't>(&'t self, scope: &'t Scope<'t, E>, doors: Doors<'t>) -> Result<(), Finish> {
+    fn accept_at<E: 't>(
+        &'t self,
+        scope: &'t Scope<'t, E>,
+        lending: &'t RingLending<'a, 'r, J, S, R>,
+        doors: Doors<'t>,
+    ) -> Result<(), Finish> {
         let Some(second) = doors.second() else {
-            self.accept(scope, doors.first());
+            self.accept(scope, lending, doors.first());
             return Ok(());
         };
-        let Ok(beside) = scope.spawn(move || self.accept_second(scope, doors, second)) else {
+        let Ok(beside) = scope.spawn(move || self.accept_second(scope, lending, doors, second))
+        else {
             return Err(Finish::OutOfMemory);
         };
-        self.accept(scope, doors.first());
+        self.accept(scope, lending, doors.first());
         second.wake(self.service.rt);
         beside.join(self.service.rt);
         Ok(())
@@ -271,19 +339,39 @@ impl<
         }
     }
 
+    /// Starts the event loops.
+    fn start_event_loops<E: 't>(
+        &'t self,
+        scope: &'t Scope<'t, E>,
+        lending: &'t RingLending<'a, 'r, J, S, R>,
+    ) -> Result<(), Finish> {
+        for number in 0..lending.count() {
+            if scope
+                .spawn(move || self.run_event_loop(lending, number))
+                .is_err()
+            {
+                return Err(Finish::OutOfMemory);
+            }
+        }
+        Ok(())
+    }
+
     /// Starts the nodes, writes the addresses at which clients are served, and serves them.
     fn start_and_accept<E: 't>(
         &'t self,
         setup: &'t ServerSetup<'t, L>,
         scope: &'t Scope<'t, E>,
+        lending: &'t RingLending<'a, 'r, J, S, R>,
         stores: Vec<S>,
     ) -> Result<(), Finish> {
         self.service
             .start(scope, setup.plan.nodes.as_slice(), stores)?;
+        self.start_event_loops(scope, lending)?;
         self.lines.begin(self.service.rt, setup.doors)?;
         self.start_operators(scope)?;
-        let accepted = self.accept_at(scope, setup.doors);
+        let accepted = self.accept_at(scope, lending, setup.doors);
         self.end_clients();
+        self.clients.wait_for_all(self.service.rt);
         accepted
     }
 }
@@ -291,6 +379,7 @@ impl<
 /// Serves, and then stops the ring. The handle starts the threads.
 fn serve_ring<
     't,
+    'a: 't,
     's: 't,
     'r: 's,
     J: Naming + Send + Sync,
@@ -301,15 +390,45 @@ fn serve_ring<
 >(
     starter: &R,
     server: &'t Server<'s, 'r, J, S, R, L, W>,
+    lending: &'t RingLending<'a, 'r, J, S, R>,
     setup: &'t ServerSetup<'t, L>,
     stores: Vec<S>,
 ) -> Result<(), Finish> {
     thread::scope(thread::scope_env(), starter, |scope| {
-        let ended = server.start_and_accept(setup, scope, stores);
+        let ended = server.start_and_accept(setup, scope, lending, stores);
+        lending.end(starter);
         server.end_operators();
         server.service.ring.stop();
         ended
     })
+}
+
+/// Serves beside event loops.
+fn serve_beside_loops<
+    's,
+    'r: 's,
+    J: Naming + Send + Sync,
+    S: EntryStore + Send,
+    R: Host,
+    L: Log + Sync,
+    W: Write + Send,
+>(
+    service: &Service<'r, J, S, R, L>,
+    server: &Server<'s, 'r, J, S, R, L, W>,
+    setup: &ServerSetup<'_, L>,
+    stores: Vec<S>,
+) -> Result<(), Finish> {
+    let crowd = crowd_of(service.rt, server.until);
+    let told = Told {
+        rt: service.rt,
+        ring: service.ring,
+        clients: &server.clients,
+    };
+    let loops = Loops::for_processors(service.rt, service.alloc)?;
+    match Lending::new(service.alloc, &loops, &crowd, &told) {
+        Ok(lending) => serve_ring(service.rt, server, &lending, setup, stores),
+        Err(_) => Err(Finish::OutOfMemory),
+    }
 }
 
 /// Ends the ring. One look at all its nodes and callers proves that they are a reachable world,
@@ -368,7 +487,7 @@ impl<S: EntryStore + Send, R: Host, L: Log + Sync, W: Write + Send> Serving<'_, 
             numbers: AtomicU64::new(0),
             desk,
         };
-        let served = serve_ring(rt, &server, setup, nodes);
+        let served = serve_beside_loops(&service, &server, setup, nodes);
         server.drop_sessions();
         let callers = server.pool.into_callers();
         served?;

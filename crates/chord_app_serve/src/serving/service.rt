@@ -5,7 +5,8 @@ ghost use Rattle.chord_app_serve.specs.Answered.{AnswersBy};
 ghost use Rattle.chord_app_serve.specs.Asked.{AskerSight, first_asker};
 ghost use Rattle.chord_app_serve.specs.InSession.{IsInSession};
 ghost use Rattle.chord_app_sockets.specs.Until.{read_size, turns_of};
-ghost use Rattle.chord_resp_serve.specs.Connections.{IsAnswered, first_numbers};
+ghost use Rattle.chord_resp.specs.Machine.{start};
+ghost use Rattle.chord_resp_serve.specs.Connections.{first_numbers};
 ghost use Rattle.chord_serve.specs.BytesRead.{ReadsInTurns, most_bytes};
 ghost use Rattle.chord_serve.specs.Ends.{EndsInput};
 ghost use Rattle.chord_serve.specs.Served.{IsServed};
@@ -19,7 +20,7 @@ use chord_app_sockets::{Ended, ServerSetup, Until};
 use chord_app_text::Finish;
 use chord_live::RingClient;
 use chord_live_ring::Ring;
-use chord_resp_serve::{Informs, ServerInfo, serve_commands};
+use chord_resp_serve::{Informs, ServerInfo, WaitingConnection};
 use chord_serve::{ClientSession, Parted, Served, serve_plain, serve_session, tell_opened};
 use chord_store::EntryStore;
 use chord_table::Naming;
@@ -148,31 +149,22 @@ impl<'r, J: Naming, S: EntryStore, R: Wait + Clock, L: Log> Service<'r, J, S, R,
         }
     }
 
-    /// Serves a client that speaks Redis's protocol, by this caller at the node `via`, in
-    /// reads as `until` allows. Gives the caller back.
-    pub fn serve_redis<I: Read, O: Write, N: Informs>(
+    /// A connection of a client that speaks Redis's protocol, which asks by this caller at the node
+    /// `via`.
+    pub fn meet_redis<'i, N: Informs>(
         &self,
         idle: IdleCaller<'r, J, S>,
         via: u64,
-        server: ServerInfo<'_, N>,
-        reader: &mut I,
-        writer: &mut O,
-        until: Until<'_>,
-    ) -> (Served, RingClient<'r, J, S>)
-        ensures end { EndsInput result.0 (I.remaining reader.new) }
-        ensures turns { ReadsInTurns (result.0 ≡ Served.TurnsSpent) (most_bytes (read_size until.entry)) (turns_of until.entry) (I.remaining reader.old) (I.remaining reader.new) }
+        server: ServerInfo<'i, N>,
+    ) -> WaitingConnection<'i, RingAsker<'r, J, S, R>, N>
+        ensures state { result.connection.commands.state ≡ start }
+        ensures numbers { result.connection.numbers ≡ first_numbers }
+        ensures server { result.connection.server ≡ server.entry }
         // Each request of a command is asked of this caller, in order, and answered by what it was
-        // told.
-        ensures answered { (input : List ℕ) × (output : List ℕ) × (last : AskerSight) × Consumes (I.remaining reader.old) (I.remaining reader.new) input
-            × IsAnswered AnswersBy (N.tells server.entry.source.now) server.entry.number result.0 first_numbers (first_asker idle.entry.caller via) input output last
-            × Appends (O.contents writer.old) (O.contents writer.new) output × (result.1 ≡ last.caller) }
+        // told: such a connection goes on by these answers (`WaitingConnection::go_on`).
+        ensures asker { result.connection.asker ≡ first_asker idle.entry.caller via }
     {
-        let asker = RingAsker::new(self.rt, idle, via);
-        let (size, turns) = (until.read_size(), until.turns());
-        let (served, asker) = serve_commands(
-            self.alloc, reader, writer, asker, server, size, turns,
-        );
-        (served, asker.into_caller())
+        WaitingConnection::new(self.alloc, server, RingAsker::new(self.rt, idle, via))
     }
 
     /// Logs how a connection ended.

@@ -1,0 +1,2 @@
+pub mod Habit
+pub mod Leaving
