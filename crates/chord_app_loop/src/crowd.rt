@@ -42,7 +42,7 @@ impl Crowd {
         self.connections.fetch_sub(1, Ordering::SeqCst);
     }
 
-    /// Whether there are so many connections that they are lent.
+    /// Whether connections are lent: there are more than `most`.
     pub fn is_large(&self) -> bool {
         self.connections.load(Ordering::SeqCst) > self.most
     }

@@ -32,8 +32,8 @@ const IDLE_MILLISECONDS: u64 = 1_000;
 /// node or a lock, and the other connections with it.
 const SLOW_MILLISECONDS: u64 = 30;
 
-/// Each time behind so many milliseconds the connections come back whose clients sent nothing since
-/// the last time.
+/// How often the event loop returns silent connections, in milliseconds: those whose clients sent
+/// nothing since the last time.
 const QUIET_MILLISECONDS: u64 = 250;
 
 /// A connection that has something: its key, and whether its client sends no more behind that.

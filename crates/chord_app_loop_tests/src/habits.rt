@@ -5,7 +5,7 @@ use chord_app_loop::{Crowd, LendHabit, Why};
 use chord_serve::Served;
 use std::thread::available_parallelism;
 
-/// The habit behind this many reads of so many bytes.
+/// The habit after this many reads, each of `bytes` bytes.
 fn behind(habit: LendHabit, reads: u64, bytes: usize) -> LendHabit {
     let mut habit = habit;
     for _ in 0..reads {

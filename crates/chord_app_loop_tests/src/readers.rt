@@ -5,7 +5,7 @@ use chord_app_loop::{Crowd, LendableReader, Why};
 use chord_serve::Served;
 use std::io::Read;
 
-/// How many reads of one byte succeed before one fails, at most so many.
+/// Reads single bytes until a read fails, at most `most` times. Tells how many succeeded.
 fn reads_of<R: Read>(reader: &mut LendableReader<'_, R>, most: u64) -> u64 {
     let mut byte = [0u8];
     for reads in 0..most {
