@@ -168,7 +168,7 @@ module _ {A D H : Type 0} (answers : A → Question → Asked → A → Type 0) 
     at_start : (d : D) (b : Bool) → Rest d → is_between (reader d) ≡ b → is_at_start (reader d).state.phase ≡ b
     at_start d b quiet e = ap (λ (xs : List ℕ). (length xs == 0) && is_at_start (reader d).state.phase) (sym quiet) ∙ e
 
-    conversed : (end : Served) (d : D) (i o : List ℕ) → Conversed Hear Step End Rest (λ x. is_between (reader x)) end c i o d → IsAnswered answers Told (number (host c)) s end (numbers c) (asker c) i o (asker d)
+    pub conversed : (end : Served) (d : D) (i o : List ℕ) → Conversed Hear Step End Rest (λ x. is_between (reader x)) end c i o d → IsAnswered answers Told (number (host c)) s end (numbers c) (asker c) i o (asker d)
     conversed served.Ended d i o p = ((reader d).state, at_start d true p.0.quiet p.1, whole d i o p.0)
     conversed served.Truncated d i o p = ((reader d).state, at_start d false p.0.quiet p.1, whole d i o p.0)
     conversed served.Read d i o p = ((reader d).state, whole d i o p)
@@ -235,3 +235,11 @@ answered_or answers tells number from to n n' a a' i o same served.Memory p = p
 answered_or answers tells number from to n n' a a' i o same served.Protocol p = p
 answered_or answers tells number from to n n' a a' i o same served.Quit p = p
 answered_or answers tells number from to n n' a a' i o same (served.Malformed code) p = p
+
+-- a connection that read nothing goes on
+pub nothing_answered : {A : Type 0} (answers : A → Question → Asked → A → Type 0) (tells : List ℕ → Type 0) (number : ℕ) (s : State) (n : Numbers) (a : A) → AnswersSome answers tells number s n a [] [] (open_at s) n a
+nothing_answered answers tells number s n a = record { commands = []; spelled = nothing_read s; answered = (refl, refl, refl) }
+
+-- or its reader failed
+pub read_failed : {A : Type 0} (answers : A → Question → Asked → A → Type 0) (tells : List ℕ → Type 0) (number : ℕ) (s : State) (n : Numbers) (a : A) → IsAnswered answers tells number s served.Read n a [] [] a
+read_failed answers tells number s n a = (s, record { numbers = n; some = nothing_answered answers tells number s n a })

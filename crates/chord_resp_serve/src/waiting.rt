@@ -1,5 +1,5 @@
 //! A connection between two pieces of its input.
-ghost use Rattle.std.specs.Prelude.{◌≡◌, ◌*◌, List, ℕ, []};
+ghost use Rattle.std.specs.Prelude.{◌≡◌, ◌≤◌, ◌*◌, List, ℕ, [], length, Some, IfErr, OnOk, MatchResult};
 ghost use Rattle.std.specs.Io.KnownBytes.{Appends, Consumes};
 ghost use Rattle.chord_resp.specs.Machine.{start};
 ghost use Rattle.chord_serve.specs.BytesRead.{ReadsInTurns, most_bytes};
@@ -8,7 +8,7 @@ ghost use Rattle.chord_resp_serve.specs.Connections.{AnswersSome, GoesOnOr, IsAn
 
 use crate::connection::{RespConnection, ServerInfo};
 use crate::informs::Informs;
-use chord_serve::{Asker, ReadSize, Served, converse};
+use chord_serve::{Asker, Due, ReadSize, Served, answer_piece, converse};
 use std::alloc::Global;
 use std::io::{Read, Write};
 
@@ -66,5 +66,31 @@ impl<A: Asker, I: Informs> WaitingConnection<'_, A, I> {
             _ => self.connection.forget_rest(alloc),
         }
         served
+    }
+
+    /// Answers the commands of a piece of the input, as [`answer_piece`] does; no bytes are its end.
+    /// At an error the connection is over.
+    pub fn answer_piece<W: Write>(
+        &mut self,
+        alloc: Global,
+        due: &mut Due,
+        piece: &[u8],
+        writer: &mut W,
+    ) -> Result<(), Served>
+        ensures end { IfErr result (λ end. EndsInput end (Some piece.now)) }
+        ensures some { OnOk result (1 ≤ length piece.now) }
+        ensures answered { (output : List ℕ) × MatchResult result
+            (λ _. AnswersSome A.answers (I.tells self.old.connection.server.source.now) self.old.connection.server.number self.old.connection.commands.state self.old.connection.numbers self.old.connection.asker piece.now output (open_at self.new.connection.commands.state) self.new.connection.numbers self.new.connection.asker
+            × (self.new.connection.server ≡ self.old.connection.server))
+            (λ end. IsAnswered A.answers (I.tells self.old.connection.server.source.now) self.old.connection.server.number self.old.connection.commands.state end self.old.connection.numbers self.old.connection.asker piece.now output self.new.connection.asker)
+            × Appends (W.contents writer.old) (W.contents writer.new) output }
+    {
+        match answer_piece(alloc, &mut self.connection, due, piece, writer) {
+            Ok(()) => Ok(()),
+            Err(end) => {
+                self.connection.forget_rest(alloc);
+                Err(end)
+            }
+        }
     }
 }

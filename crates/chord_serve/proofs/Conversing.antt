@@ -1,5 +1,5 @@
 -- Steps of a dialogue one after another.
-use Rattle.std.proofs.Common.{◌≢◌, ◌≡◌, ◌⊎◌, ℕ, List, [], ◌++◌, Bool, true, false, Option, Result, Ok, Err, refl, sym, ap, subst, ◌∙◌, append_assoc, inl, inr}
+use Rattle.std.proofs.Common.{◌≢◌, ◌≡◌, ◌⊎◌, ℕ, List, [], ◌++◌, length, ◌==◌, Bool, true, false, Option, Result, Ok, Err, refl, sym, ap, subst, ◌∙◌, append_assoc, inl, inr}
 use Rattle.std.specs.Prelude.{IfErr}
 use Rattle.std.specs.Io.KnownBytes.{Appends, Consumes, Keeps}
 use Rattle.std.proofs.KnownBytes.{Appends-nil, Appends-trans, Consumes-nil, Consumes-kept, Consumes-trans}
@@ -8,8 +8,9 @@ use Rattle.chord_serve.specs.declared.served.Served.{Served}
 use Rattle.chord_serve.specs.declared.served.Served.TheVariants as served
 use Rattle.chord_serve.specs.Ends.{IsStop, EndsInput}
 use Rattle.chord_serve.specs.Writes.{WritesPrefix}
-use Rattle.chord_serve.specs.Conversing.{Talks, IsStopped, Waits, LosesPiece, WritesPart, Conversed, Converses, AnswersNext, AnswersPart, EndsWritten, SendsPart, AnswersAll, TakesTurn}
+use Rattle.chord_serve.specs.Conversing.{Talks, IsStopped, Waits, LosesPiece, WritesPart, Conversed, Converses, AnswersNext, AnswersPart, EndsWritten, SendsPart, AnswersAll, AnswersPiece, TakesTurn}
 use Rattle.chord_serve.specs.Conversing.Talks.{Begins, Hears, Says}
+use Rattle.chord_serve.proofs.BytesRead.{empty_if}
 
 -- an end caused by a request says nothing of the input
 pub stop_ends : (left : Option (List ℕ)) (end : Served) → IsStop end → EndsInput end left
@@ -188,26 +189,35 @@ module _ {D : Type 0} (hears says : D → List ℕ → D → Type 0) (stops : Se
     pub read_fails : (a : D) (left left' old : Option (List ℕ)) → waits a → Keeps left left' → Turn (Err served.Read) a left left' old old a
     read_fails a left left' old w kept = ([], [], Consumes-kept left left left' [] (Consumes-nil left) kept, now a w, Appends-nil old)
 
-    pub input_ends : (a : D) (left left' old : Option (List ℕ)) → waits a → Consumes left left' [] → between a ≡ true → Turn (Err served.Ended) a left left' old old a
-    input_ends a left left' old w taken is = ([], [], taken, (now a w, is), Appends-nil old)
+    abbrev pub Piece : Result (Unit {0}) Served → D → List ℕ → Option (List ℕ) → Option (List ℕ) → D → Type 0
+    Piece = AnswersPiece hears says stops waits between
 
-    pub input_stops : (a : D) (left left' old : Option (List ℕ)) → waits a → Consumes left left' [] → between a ≡ false → Turn (Err served.Truncated) a left left' old old a
-    input_stops a left left' old w taken is = ([], [], taken, (now a w, is), Appends-nil old)
+    -- no bytes are the end of the input
+    pub input_ends : (a : D) (piece : List ℕ) (old : Option (List ℕ)) → waits a → true ≡ (length piece == 0) → between a ≡ true → Piece (Err served.Ended) a piece old old a
+    input_ends a piece old w none is = subst (λ (x : List ℕ). Piece (Err served.Ended) a x old old a) (sym (empty_if piece (sym none))) ([], (now a w, is), Appends-nil old)
 
-    pub piece_lost : (a : D) (piece : List ℕ) (left left' old : Option (List ℕ)) → piece ≢ [] → Consumes left left' piece → Turn (Err served.Memory) a left left' old old a
-    piece_lost a piece left left' old some taken = (piece, [], taken, inr (record { heard = []; piece = piece; some = some; input_is = refl; talked = Begins }), Appends-nil old)
+    pub input_stops : (a : D) (piece : List ℕ) (old : Option (List ℕ)) → waits a → true ≡ (length piece == 0) → between a ≡ false → Piece (Err served.Truncated) a piece old old a
+    input_stops a piece old w none is = subst (λ (x : List ℕ). Piece (Err served.Truncated) a x old old a) (sym (empty_if piece (sym none))) ([], (now a w, is), Appends-nil old)
+
+    pub piece_lost : (a : D) (piece : List ℕ) (old : Option (List ℕ)) → piece ≢ [] → Piece (Err served.Memory) a piece old old a
+    piece_lost a piece old some = ([], inr (record { heard = []; piece = piece; some = some; input_is = refl; talked = Begins }), Appends-nil old)
 
     -- there was no buffer for the first read
     pub nothing_read : (a : D) → waits a → Converses hears says stops waits between served.Memory a [] [] a
     nothing_read a w = inr (refl, record { unread = refl; answered = now a w })
 
-    pub all_turns : (result : Result (Unit {0}) Served) (a b c : D) (piece : List ℕ) (left left' old new : Option (List ℕ)) → IfErr result IsStop
-        → Consumes left left' piece → hears a piece b → AnswersAll hears says stops waits result b old new c → Turn result a left left' old new c
-    all_turns (Ok done) a b c piece left left' old new stop taken hear p =
-        (piece, p.0, taken, subst (λ (x : List ℕ). Waits hears says stops waits a x p.0 c) (append-nil piece) (waits_then a b c piece [] [] p.0 (heard hears says a b piece hear) p.1), p.2)
-    all_turns (Err end) a b c piece left left' old new stop taken hear p =
+    pub piece_answered : (result : Result (Unit {0}) Served) (a b c : D) (piece : List ℕ) (old new : Option (List ℕ)) → IfErr result IsStop
+        → hears a piece b → AnswersAll hears says stops waits result b old new c → Piece result a piece old new c
+    piece_answered (Ok done) a b c piece old new stop hear p =
+        (p.0, subst (λ (x : List ℕ). Waits hears says stops waits a x p.0 c) (append-nil piece) (waits_then a b c piece [] [] p.0 (heard hears says a b piece hear) p.1), p.2)
+    piece_answered (Err end) a b c piece old new stop hear p =
         let so = written_conversed between end b c [] p.0 stop p.1 in
-        (piece, p.0, taken, subst (λ (x : List ℕ). Conversed hears says stops waits between end a x p.0 c) (append-nil piece) (conversed_then between end a b c piece [] [] p.0 (heard hears says a b piece hear) so), p.2)
+        (p.0, subst (λ (x : List ℕ). Conversed hears says stops waits between end a x p.0 c) (append-nil piece) (conversed_then between end a b c piece [] [] p.0 (heard hears says a b piece hear) so), p.2)
+
+    -- a read took the piece
+    pub turn_of : (result : Result (Unit {0}) Served) (a b : D) (piece : List ℕ) (left left' old new : Option (List ℕ)) → Consumes left left' piece → Piece result a piece old new b → Turn result a left left' old new b
+    turn_of (Ok done) a b piece left left' old new taken p = (piece, p.0, taken, p.1, p.2)
+    turn_of (Err end) a b piece left left' old new taken p = (piece, p.0, taken, p.1, p.2)
 
     pub no_turn : (a : D) (left old : Option (List ℕ)) → waits a → Turn (Ok tt) a left left old old a
     no_turn a left old w = ([], [], Consumes-nil left, now a w, Appends-nil old)

@@ -96,6 +96,11 @@ module _ {D : Type 0} (hears says : D → List ℕ → D → Type 0) (stops : Se
   AnswersAll (Ok done) before old new after = (output : List ℕ) × Waits before [] output after × Appends old new output
   AnswersAll (Err end) before old new after = (output : List ℕ) × EndsWritten end before [] output after × Appends old new output
 
+  -- the requests of a piece of the input are answered, or the dialogue ended
+  abbrev pub AnswersPiece : (D → Bool) → Result (Unit {0}) Served → (before : D) (piece : List ℕ) (old new : Option (List ℕ)) (after : D) → Type 0
+  AnswersPiece is_between (Ok done) before piece old new after = (output : List ℕ) × Waits before piece output after × Appends old new output
+  AnswersPiece is_between (Err end) before piece old new after = (output : List ℕ) × Conversed is_between end before piece output after × Appends old new output
+
   -- one read, and the answers to it; or the dialogue ended
   abbrev pub TakesTurn : (D → Bool) → Result (Unit {0}) Served → (before : D) (left left' old new : Option (List ℕ)) (after : D) → Type 0
   TakesTurn is_between (Ok done) before left left' old new after =

@@ -46,6 +46,6 @@ pub use read_size::ReadSize;
 pub use served::Served;
 pub use server::{serve, serve_plain, serve_session};
 pub use session_table::{BeginRefusal, HeldSession, Resumed, SessionTable};
-pub use turns::{converse, converse_further};
+pub use turns::{answer_piece, converse, converse_further};
 pub use wire_client::sessions::{BeginFault, CloseFault, OpenFault, ResumeFault};
 pub use wire_client::{AgainFault, ReceiveFault, SendFault, WireClient};

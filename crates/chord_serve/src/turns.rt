@@ -1,8 +1,8 @@
 //! The loop of every protocol: read, answer what is whole, write.
-ghost use Rattle.std.specs.Prelude.{◌≡◌, ◌≢◌, ◌<◌, ◌*◌, [], List, ℕ, Ok, Err, true, IfErr, OnOk};
+ghost use Rattle.std.specs.Prelude.{◌≡◌, ◌≢◌, ◌<◌, ◌≤◌, ◌*◌, [], List, ℕ, length, Some, Ok, Err, true, IfErr, OnOk};
 ghost use Rattle.std.specs.Io.KnownBytes.{Appends, Consumes};
 ghost use Rattle.chord_serve.specs.BytesRead.{ReadsBetween, ReadsInTurns, most_bytes};
-ghost use Rattle.chord_serve.specs.Conversing.{AnswersPart, SendsPart, AnswersAll, TakesTurn, Converses};
+ghost use Rattle.chord_serve.specs.Conversing.{AnswersPart, SendsPart, AnswersAll, AnswersPiece, TakesTurn, Converses};
 ghost use Rattle.chord_serve.specs.Ends.{IsStop, EndsInput};
 
 use crate::dialogue::Dialogue;
@@ -62,6 +62,35 @@ fn answer_all<D: Dialogue, W: Write>(
     Ok(())
 }
 
+/// Answers all requests that are whole with this piece of the input. No bytes are the end of the
+/// input. The answers are written together, or whenever they are more than 65,536 bytes; they are
+/// also written if a request ends the dialogue.
+pub fn answer_piece<D: Dialogue, W: Write>(
+    alloc: Global,
+    dialogue: &mut D,
+    due: &mut Due,
+    piece: &[u8],
+    writer: &mut W,
+) -> Result<(), Served>
+    requires { D.waits dialogue.old }
+    ensures end { IfErr result (λ end. EndsInput end (Some piece.now)) }
+    ensures some { OnOk result (1 ≤ length piece.now) }
+    ensures not_spent { result ≢ Err Served.TurnsSpent }
+    ensures not_read { result ≢ Err Served.Read }
+    ensures answered { AnswersPiece D.hears D.says D.stops D.waits D.between result dialogue.old piece.now (W.contents writer.old) (W.contents writer.new) dialogue.new }
+{
+    if piece.is_empty() {
+        if dialogue.is_between() {
+            return Err(Served::Ended);
+        }
+        return Err(Served::Truncated);
+    }
+    match dialogue.feed(piece) {
+        Ok(()) => answer_all(alloc, dialogue, due, writer),
+        Err(_) => Err(Served::Memory),
+    }
+}
+
 // One read, then the answers to all whole requests, written together.
 fn take_turn<D: Dialogue, R: Read, W: Write>(
     alloc: Global,
@@ -80,19 +109,8 @@ fn take_turn<D: Dialogue, R: Read, W: Write>(
     ensures turn { TakesTurn D.hears D.says D.stops D.waits D.between result dialogue.old (R.remaining reader.old) (R.remaining reader.new) (W.contents writer.old) (W.contents writer.new) dialogue.new }
 {
     match intake.read_from(reader) {
-        Ok(()) => {}
-        Err(_) => return Err(Served::Read),
-    }
-    let piece = intake.bytes();
-    if piece.is_empty() {
-        if dialogue.is_between() {
-            return Err(Served::Ended);
-        }
-        return Err(Served::Truncated);
-    }
-    match dialogue.feed(piece) {
-        Ok(()) => answer_all(alloc, dialogue, due, writer),
-        Err(_) => Err(Served::Memory),
+        Ok(()) => answer_piece(alloc, dialogue, due, intake.bytes(), writer),
+        Err(_) => Err(Served::Read),
     }
 }
 

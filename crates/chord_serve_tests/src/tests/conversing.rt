@@ -2,7 +2,7 @@
 ghost use Rattle.std.specs.Prelude.{◌≡◌, ◌++◌, ◌==◌, [], length};
 ghost use Rattle.chord_serve.specs.declared.served.Served.TheVariants.{Memory};
 
-use chord_serve::{Dialogue, Due, ReadSize, Served, converse, converse_further};
+use chord_serve::{Dialogue, Due, ReadSize, Served, answer_piece, converse, converse_further};
 use std::alloc::{AllocError, Global};
 use std::marker::Model;
 
@@ -103,5 +103,35 @@ fn a_further_conversation_says_first_what_was_heard_before(rt: HostRuntime) {
     ] {
         let seen = conversed_further(rt.alloc(), turns).expect(&rt, "memory for two letters");
         assert!(rt; seen == (end, written), "{turns} turns");
+    }
+}
+
+/// What is said to a piece, and how that ends.
+fn said_to(alloc: Global, piece: &[u8]) -> (Result<(), Served>, [u8; 6]) {
+    let mut room = [0u8; 6];
+    let mut writer = room.as_mut_slice();
+    let mut echo = Echo {
+        heard: Vec::new(alloc),
+    };
+    let mut due = Due::new(alloc);
+    let answered = answer_piece(alloc, &mut echo, &mut due, piece, &mut writer);
+    drop(due);
+    drop(echo);
+    (answered, room)
+}
+
+#[test]
+fn a_piece_is_answered(rt: HostRuntime) {
+    for (piece, answered, written) in [
+        (b"abc".as_slice(), Ok(()), *b"abc\0\0\0"),
+        (b"abcdef", Ok(()), *b"abcdef"),
+        (b"", Err(Served::Ended), *b"\0\0\0\0\0\0"),
+        // There is no room for a seventh letter.
+        (b"abcdefg", Err(Served::Write), *b"abcdef"),
+    ] {
+        assert!(rt;
+            said_to(rt.alloc(), piece) == (answered, written),
+            "{answered:?}"
+        );
     }
 }

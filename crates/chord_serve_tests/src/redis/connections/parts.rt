@@ -4,7 +4,7 @@ use super::askers::Scripted;
 use super::sessions::{ANSWERS, COMMANDS, NO_TROUBLE, OneLine};
 use crate::checks::check;
 use chord_resp_serve::{ServerInfo, WaitingConnection, laws};
-use chord_serve::{ReadSize, Served};
+use chord_serve::{Due, ReadSize, Served};
 use chord_serve_testkit::{FREE, Limited, Limits};
 use std::alloc::Global;
 
@@ -95,6 +95,54 @@ fn a_connection_goes_on_behind_a_pause(rt: HostRuntime) {
     }
     let quit = in_two(rt.alloc(), b"QUIT\r\nPING\r\n", b"");
     check!(&rt; quit.paused == Served::Quit && !quit.is_answered, "a client that quits");
+}
+
+/// How a connection takes two pieces, and whether it writes these answers.
+fn by_pieces(alloc: Global, first: &[u8], more: &[u8], answers: &[u8]) -> [Result<(), Served>; 2] {
+    let mut written = Vec::new(alloc);
+    let mut due = Due::new(alloc);
+    let mut waiting = fresh(alloc);
+    let paused = waiting.answer_piece(alloc, &mut due, first, &mut written);
+    let end = waiting.answer_piece(alloc, &mut due, more, &mut written);
+    drop(waiting);
+    drop(due);
+    let is_answered = written.as_slice() == answers;
+    drop(written);
+    if is_answered {
+        [paused, end]
+    } else {
+        [Err(Served::Write); 2]
+    }
+}
+
+/// Wherever its input is cut, a connection answers its pieces as their whole.
+#[test]
+fn pieces_are_answered_as_a_whole(rt: HostRuntime) {
+    for cut in 1..COMMANDS.len() {
+        let (first, more) = COMMANDS.split_at(cut);
+        let seen = by_pieces(rt.alloc(), first, more, ANSWERS);
+        assert!(rt; seen == [Ok(()), Ok(())], "{cut} bytes first");
+    }
+}
+
+/// The end of the input, bytes that are no command, and QUIT end it.
+#[test]
+fn a_piece_ends_a_connection(rt: HostRuntime) {
+    let refusal = b"-ERR Protocol error: invalid multibulk length\r\n".as_slice();
+    for (first, more, answers, end) in [
+        (COMMANDS, b"".as_slice(), ANSWERS, Served::Ended),
+        (b"PING\r\nPI", b"", b"+PONG\r\n", Served::Truncated),
+        (
+            b"PING\r\n",
+            b"QUIT\r\nPING\r\n",
+            b"+PONG\r\n+OK\r\n",
+            Served::Quit,
+        ),
+        (b"*", b"x\r\n", refusal, Served::Protocol),
+    ] {
+        let seen = by_pieces(rt.alloc(), first, more, answers);
+        assert!(rt; seen == [Ok(()), Err(end)], "{end:?}");
+    }
 }
 
 #[test]
