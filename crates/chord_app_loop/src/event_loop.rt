@@ -1,25 +1,20 @@
 //! The thread that answers all connections that are lent to it.
-ghost use Rattle.std.specs.Prelude.{◌≡◌, ◌≤◌, ◌<◌, ◌*◌, ◌++◌, List, ℕ, Err, IfErr, IfOk, length, take};
-ghost use Rattle.std.specs.Io.KnownBytes.{Appends};
-ghost use Rattle.chord_app_loop.specs.Leaving.{why_to_leave};
 
 use crate::lent::{Lent, Returned, Why};
 use crate::loops::{WAKE, Waits};
+use crate::prompt_writer::PromptWriter;
+use crate::turn::{Buffers, take_turn};
 use chord_app_sockets::Clients;
 use chord_resp_serve::Informs;
-use chord_serve::{Asker, ReadSize, Served};
+use chord_serve::Asker;
 use crossbeam_channel::Receiver;
 use mio::unix::SourceFd;
 use mio::{Interest, Token};
 use slab::Slab;
 use std::alloc::{AllocError, Global};
-use std::io::{ErrorKind, Read, Write};
 use std::os::fd::AsRawFd;
 use std::sync::Wait;
 use std::time::{Clock, Duration, Instant};
-
-/// How many bytes of a connection one read takes at most, which one turn then takes in.
-const PIECE_BYTES: usize = 4_096;
 
 /// How many milliseconds a wait takes at most while there are connections: then it looks whether
 /// these are to end.
@@ -54,8 +49,7 @@ pub(crate) struct EventLoop<'l, 'a, A, I> {
     /// The connections that have something.
     ready: Vec<Ready>,
     lent: Slab<Lent<'a, A, I>>,
-    piece: [u8; PIECE_BYTES],
-    answers: Vec<u8>,
+    buffers: Buffers,
     /// When it last looked for silent clients.
     looked: Option<Instant>,
 }
@@ -74,8 +68,7 @@ impl<'l, 'a, A: Drop, I> EventLoop<'l, 'a, A, I> {
             is_woken: false,
             ready: Vec::new(alloc),
             lent: Slab::new(alloc),
-            piece: [0; PIECE_BYTES],
-            answers: Vec::new(alloc),
+            buffers: Buffers::new(alloc),
             looked: None,
         }
     }
@@ -214,77 +207,30 @@ impl<'l, 'a, A: Drop, I> EventLoop<'l, 'a, A, I> {
     }
 }
 
-/// Writes as many of the bytes as the stream takes at once. Tells how many.
-fn write_some<W: Write>(stream: &mut W, bytes: &[u8]) -> Result<usize, Served>
-    ensures wrote { IfOk result (λ count. (count ≤ length bytes.now) × Appends (W.contents stream.old) (W.contents stream.new) (take count bytes.now)) }
-    ensures refused { IfErr result (λ end. end ≡ Served.Write) }
-{
-    let mut at = 0;
-    while at < bytes.len() {
-        match stream.write(&bytes[at..]) {
-            Ok(0) => return Err(Served::Write),
-            Ok(count) => at += count,
-            Err(error) if error.kind() == ErrorKind::WouldBlock => return Ok(at),
-            Err(_) => return Err(Served::Write),
-        }
-    }
-    Ok(at)
-}
-
-/// Writes as many of the bytes as the stream takes at once, and gives those that it did not take.
-fn write_at_once<W: Write>(alloc: Global, stream: &mut W, bytes: &[u8]) -> Result<Vec<u8>, Served>
-    ensures wrote { IfOk result (λ rest. (written : List ℕ) × Appends (W.contents stream.old) (W.contents stream.new) written × (written ++ rest.items ≡ bytes.now)) }
-    // All that is taken needs no memory.
-    ensures memory { result ≡ Err Served.Memory → (count : ℕ) × (count < length bytes.now) × Appends (W.contents stream.old) (W.contents stream.new) (take count bytes.now) }
-{
-    let count = write_some(stream, bytes)?;
-    if count >= bytes.len() {
-        return Ok(Vec::new(alloc));
-    }
-    match Vec::from_slice(alloc, &bytes[count..]) {
-        Ok(rest) => Ok(rest),
-        Err(_) => Err(Served::Memory),
-    }
-}
-
-/// Why a connection is returned behind a piece: it ended, or the client takes its answers slowly, or
-/// there may be more to read, which no wait tells. None if it stays.
-fn why_to_leave(served: Served, is_taken: bool, is_all: bool) -> Option<Why>
-    ensures { result ≡ why_to_leave served is_taken is_all }
-{
-    match served {
-        Served::TurnsSpent if is_taken && is_all => None,
-        Served::TurnsSpent => Some(Why::Busy),
-        end => Some(Why::Ended(end)),
-    }
-}
-
 impl<'a, A: Asker + Drop, I: Informs> EventLoop<'_, 'a, A, I> {
-    /// Answers what this client sent, and writes what it takes of the answers at once. Tells why the
-    /// connection is to be returned, with the rest of the answers.
+    /// Answers what this client sent. Tells why the connection is to be returned, with the answers
+    /// that the client has not taken.
     fn answer(&mut self, ready: Ready) -> Option<(Why, Vec<u8>)> {
         let alloc = self.alloc;
         let lent = self.lent.get_mut(ready.key)?;
-        let mut stream = &*lent.stream;
-        let count = match stream.read(&mut self.piece) {
-            Ok(count) => count,
-            Err(error) if error.kind() == ErrorKind::WouldBlock => return None,
-            Err(_) => return Some((Why::Ended(Served::Read), Vec::new(alloc))),
-        };
         lent.is_busy = true;
-        self.answers.clear();
-        let mut piece = &self.piece[..count];
-        let size = ReadSize::Small;
-        let served = lent
-            .waiting
-            .go_on(alloc, &mut piece, &mut self.answers, size, 1);
-        match write_at_once(alloc, &mut stream, &self.answers) {
-            Ok(rest) => {
-                let is_all = count < PIECE_BYTES && !ready.is_last;
-                let why = why_to_leave(served, rest.is_empty(), is_all)?;
-                Some((why, rest))
+        let mut reader = &*lent.stream;
+        let mut writer = PromptWriter::new(alloc, &*lent.stream);
+        let why = take_turn(
+            alloc,
+            &mut self.buffers,
+            &mut lent.waiting,
+            &mut reader,
+            &mut writer,
+            ready.is_last,
+        );
+        let unwritten = writer.into_unwritten();
+        match why {
+            Some(why) => Some((why, unwritten)),
+            None => {
+                drop(unwritten);
+                None
             }
-            Err(end) => Some((Why::Ended(end), Vec::new(alloc))),
         }
     }
 

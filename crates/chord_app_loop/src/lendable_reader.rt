@@ -1,6 +1,8 @@
 //! Reads of a connection that can be lent.
 ghost use Rattle.std.specs.Prelude.{◌≡◌, false};
-ghost use Rattle.chord_app_loop.specs.Habit.{after_return, first_habit};
+ghost use Rattle.std.specs.Io.{ReadsAtMost};
+ghost use Rattle.std.specs.Io.KnownBytes.{ReadConsumes};
+ghost use Rattle.chord_app_loop.specs.Habit.{ReadsOrLeaves, after_return, first_habit};
 
 use crate::crowd::Crowd;
 use crate::habit::LendHabit;
@@ -18,6 +20,7 @@ pub struct LendableReader<'a, R> {
 
 impl<'a, R: Read> LendableReader<'a, R> {
     pub fn new(inner: &'a mut R, crowd: &'a Crowd) -> LendableReader<'a, R>
+        ensures inner { result.inner.now ≡ inner.old }
         ensures habit { result.habit ≡ first_habit }
         ensures leaving { result.is_leaving ≡ false }
     {
@@ -39,6 +42,7 @@ impl<'a, R: Read> LendableReader<'a, R> {
 
     /// Reads on, behind a return from the event loop.
     pub fn come_back(&mut self, why: Why)
+        ensures inner { self.new.inner.now ≡ self.old.inner.now }
         ensures habit { self.new.habit ≡ after_return why }
         ensures leaving { self.new.is_leaving ≡ false }
     {
@@ -48,7 +52,13 @@ impl<'a, R: Read> LendableReader<'a, R> {
 }
 
 impl<R: Read> Read for LendableReader<'_, R> {
-    fn read(&mut self, buf: &mut [u8]) -> io::Result<usize> {
+    ghost remaining = { λ r. R.remaining r.inner.now };
+
+    fn read(&mut self, buf: &mut [u8]) -> io::Result<usize>
+        ensures bound { ReadsAtMost result buf.new }
+        ensures bytes { ReadConsumes (R.remaining self.old.inner.now) (R.remaining self.new.inner.now) result buf.new }
+        ensures habit { ReadsOrLeaves result self.old.habit self.old.is_leaving self.new.habit self.new.is_leaving }
+    {
         if self.habit.is_due() && self.crowd.is_large() {
             self.is_leaving = true;
             return Err(io::Error::from(ErrorKind::Interrupted));

@@ -1,4 +1,6 @@
 //! Lends connections to event loops.
+ghost use Rattle.std.specs.Prelude.{◌≡◌, ◌*◌, [], MatchOption, vec_len};
+ghost use Rattle.chord_app_loop.specs.declared.lent.Why.TheVariants.{Busy};
 
 use crate::crowd::Crowd;
 use crate::event_loop::EventLoop;
@@ -44,17 +46,23 @@ impl<'a, A: Drop, I> Lending<'a, A, I> {
     }
 
     /// What the clients are told by INFO.
-    pub fn source(&self) -> &'a I {
+    pub fn source(&self) -> &'a I
+        ensures { result ≡ self.now.source }
+    {
         self.source
     }
 
     /// Among whose connections they are.
-    pub fn crowd(&self) -> &'a Crowd {
+    pub fn crowd(&self) -> &'a Crowd
+        ensures { result ≡ self.now.crowd }
+    {
         self.crowd
     }
 
     /// How many event loops there are.
-    pub fn count(&self) -> u64 {
+    pub fn count(&self) -> u64
+        ensures { result ≡ vec_len self.now.loops.now.all }
+    {
         self.loops.count()
     }
 
@@ -115,7 +123,9 @@ impl<'a, A: Drop, I> Lending<'a, A, I> {
         number: u64,
         waiting: WaitingConnection<'a, A, I>,
         stream: &Arc<TcpStream>,
-    ) -> Option<Returned<'a, A, I>> {
+    ) -> Option<Returned<'a, A, I>>
+        ensures unlent { vec_len self.now.loops.now.all ≡ 0 → MatchOption result ⊥ (λ returned. (returned.why ≡ Busy) × (returned.waiting ≡ waiting.entry) × (returned.unwritten.items ≡ [])) }
+    {
         if self.count() == 0 {
             return Some(Returned::unlent(alloc, waiting));
         }

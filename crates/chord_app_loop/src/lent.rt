@@ -1,5 +1,6 @@
 //! Connections that are lent, and how they come back.
 ghost use Rattle.std.specs.Prelude.{◌≡◌, []};
+ghost use Rattle.chord_app_loop.specs.Leaving.{end_of};
 
 use chord_resp_serve::WaitingConnection;
 use chord_serve::Served;
@@ -17,6 +18,18 @@ pub enum Why {
     Busy,
     /// It ended so.
     Ended(Served),
+}
+
+impl Why {
+    /// How it ended. None if it goes on.
+    pub fn end(self) -> Option<Served>
+        ensures { result ≡ end_of self }
+    {
+        match self {
+            Why::Ended(end) => Some(end),
+            Why::Quiet | Why::Busy => None,
+        }
+    }
 }
 
 /// A connection that comes back from an event loop.

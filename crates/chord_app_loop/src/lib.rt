@@ -16,7 +16,9 @@ mod lendable_reader;
 mod lending;
 mod lent;
 mod loops;
+mod prompt_writer;
 mod serving;
+mod turn;
 
 pub use crowd::Crowd;
 pub use habit::LendHabit;

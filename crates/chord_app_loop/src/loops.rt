@@ -1,4 +1,5 @@
 //! What event loops wait with.
+ghost use Rattle.std.specs.Prelude.{◌≡◌, ◌≤◌, IfOk, vec_len};
 
 use mio::{Events, Poll, Token, Waker};
 use std::alloc::{AllocError, Global};
@@ -49,7 +50,9 @@ pub struct Loops {
 
 impl Loops {
     /// This many event loops, or as many as there are memory and descriptors for.
-    pub fn open<R: Net>(rt: &R, alloc: Global, count: u64) -> Result<Loops, AllocError> {
+    pub fn open<R: Net>(rt: &R, alloc: Global, count: u64) -> Result<Loops, AllocError>
+        ensures { IfOk result (λ loops. vec_len loops.all ≤ count) }
+    {
         let mut all = Vec::new(alloc);
         for _ in 0..count {
             if let Some(one) = Loop::open(rt, alloc) {
@@ -68,7 +71,9 @@ impl Loops {
     }
 
     /// How many there are.
-    pub fn count(&self) -> u64 {
+    pub fn count(&self) -> u64
+        ensures { result ≡ vec_len self.now.all }
+    {
         self.all.len() as u64
     }
 

@@ -65,3 +65,11 @@ fn a_crowd_of_none_is_small(rt: HostRuntime) {
     check!(&rt; available_parallelism(&rt).is_ok());
     check!(&rt; !Crowd::for_processors(&rt).is_large());
 }
+
+/// Only a connection that ended has an end.
+#[test]
+fn ends_are_told(rt: HostRuntime) {
+    check!(&rt; Why::Quiet.end() == None);
+    check!(&rt; Why::Busy.end() == None);
+    check!(&rt; Why::Ended(Served::Quit).end() == Some(Served::Quit));
+}

@@ -4,7 +4,7 @@ use chord_app_loop::{Crowd, Lending, Loops, Returned, Visit, Why, serve_lending}
 use chord_app_sockets::{Clients, PatientReader, PatientWriter, Pollers, PollingReader, prepare};
 use chord_resp_serve::{Informs, ServerInfo, WaitingConnection};
 use chord_serve::{ReadSize, Served};
-use chord_serve_testkit::MapAsker;
+use chord_serve_testkit::{Limited, Limits, MapAsker};
 use std::alloc::{AllocError, Global};
 use std::net::{Net, TcpListener, TcpStream};
 use std::sync::{Arc, Wait};
@@ -171,4 +171,53 @@ pub fn serve_beside<
     drop(loops);
     drop(clients);
     Some(done)
+}
+
+/// How a client is served that sends PING this many times, six bytes at a time, where there is no
+/// event loop, and how many bytes it is answered.
+pub fn serve_alone<R: Wait + Net<Listener = TcpListener, Stream = TcpStream>>(
+    rt: &R,
+    alloc: Global,
+    pings: u64,
+) -> Option<(Visited, usize)> {
+    let Ends { client, server } = connect(rt, alloc).ok()?;
+    let mut bytes = Vec::new(alloc);
+    for _ in 0..pings {
+        bytes.extend_from_slice(b"PING\r\n").ok()?;
+    }
+    let limits = Limits {
+        step: 6,
+        calls: u64::MAX,
+    };
+    let mut reader = Limited::new(bytes.as_slice(), limits);
+    let mut answers = Vec::new(alloc);
+    let crowd = Crowd::new(0);
+    let loops = Loops::open(rt, alloc, 0).ok()?;
+    let lending = Lending::new(alloc, &loops, &crowd, &Silent).ok()?;
+    let visit = Visit {
+        number: 7,
+        stream: &server,
+        size: ReadSize::Large,
+        turns: u64::MAX,
+    };
+    let waiting = fresh(alloc, lending.source(), MapAsker::new(alloc));
+    let (served, asker) = serve_lending(
+        rt,
+        alloc,
+        &lending,
+        waiting,
+        visit,
+        &mut reader,
+        &mut answers,
+    );
+    let asked = asker.as_ref().map(|asker| asker.requests.len());
+    drop(asker);
+    drop(lending);
+    drop(loops);
+    let written = answers.len();
+    drop(answers);
+    drop(bytes);
+    drop(server);
+    drop(client);
+    Some(((served, asked), written))
 }

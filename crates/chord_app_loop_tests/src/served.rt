@@ -1,7 +1,7 @@
 //! Clients of a connection that is lent while they are busy.
 
 use crate::checks::check;
-use crate::parties::{Ends, Visited, connect, serve_beside};
+use crate::parties::{Ends, Visited, connect, serve_alone, serve_beside};
 use chord_serve::Served;
 use chord_serve_testkit::{MapAsker, expect};
 use std::alloc::Global;
@@ -66,4 +66,12 @@ fn busy_client<R: Threads + Wait + Clock + Net<Listener = TcpListener, Stream = 
 fn a_busy_client_is_answered(rt: HostRuntime) {
     let served = busy_client(&rt, rt.alloc());
     check!(&rt; served == Some(((Served::Quit, Some(600)), true)));
+}
+
+/// Where there is no event loop, a connection's own thread answers all: it tries to lend the
+/// connection behind 8, 264 and 520 of these commands.
+#[test]
+fn a_thread_serves_without_event_loops(rt: HostRuntime) {
+    let served = serve_alone(&rt, rt.alloc(), 600);
+    check!(&rt; served == Some(((Served::Ended, Some(0)), 600 * 7)));
 }
