@@ -56,5 +56,5 @@ applied request reply pairs pairs' due change = (sym due, change ∙ sym (after_
 -- values that are not few need memory
 pub many_take : (values : List (List ℕ)) → ¬ AreFew values → takes_memory (Values values) ≡ true
 many_take [] many = absurd (many tt)
-many_take (value ∷ []) many = lt-ltb 16 (length value) (omega (arith, many))
+many_take (value ∷ []) many = lt-ltb 24 (length value) (omega (arith, many))
 many_take (value ∷ other ∷ values) many = refl

@@ -39,11 +39,11 @@ CheckIs request (Ok passed) = IsRequest request
 CheckIs request (Err fault) = HasFault request fault
 
 -- whether giving this reply needs memory: it adds a value, or returns values other than a single
--- one of up to 16 bytes
+-- one of up to 24 bytes
 abbrev pub takes_memory : Reply → Bool
 takes_memory Added = true
 takes_memory (Values []) = false
-takes_memory (Values (value ∷ [])) = nat_lt 16 (length value)
+takes_memory (Values (value ∷ [])) = nat_lt 24 (length value)
 takes_memory (Values (value ∷ other ∷ values)) = true
 takes_memory reply = false
 

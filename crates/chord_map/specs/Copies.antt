@@ -1,4 +1,4 @@
--- What is copied without allocating: values of up to 16 bytes, stored inline. Source: our own.
+-- What is copied without allocating: values of up to 24 bytes, stored inline. Source: our own.
 use Rattle.std.specs.Prelude.{ℕ, ◌≤◌, List, [], ◌∷◌, length}
 use Rattle.chord_map.specs.Checked.{value_of}
 use Rattle.chord_map.specs.Map.{key_of}
@@ -6,9 +6,9 @@ use Rattle.chord_map.specs.declared.reply.Reply.{Reply}
 use Rattle.chord_map.specs.declared.reply.Reply.TheVariants.{Values}
 use Rattle.chord_map.specs.declared.request.Request.{Request}
 
--- a key or a value of up to 16 bytes
+-- a key or a value of up to 24 bytes
 abbrev pub IsShort : List ℕ → Type 0
-IsShort bytes = length bytes ≤ 16
+IsShort bytes = length bytes ≤ 24
 
 -- no value, or a single short one
 abbrev pub AreFew : List (List ℕ) → Type 0

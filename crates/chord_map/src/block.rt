@@ -3,7 +3,7 @@ ghost use Rattle.std.specs.Prelude.{◌≡◌, ◌≤◌, ◌<◌, length, take}
 
 use std::marker::Model;
 
-/// 17 to N bytes and their number. N is at most 255.
+/// 25 to N bytes and their number. N is at most 255.
 #[derive(Debug, Drop)]
 pub struct Block<const N: usize> {
     len: u8,
@@ -17,12 +17,12 @@ impl<const N: usize> Model for Block<N> {
 
     ghost view = { λ block. take block.len block.bytes };
 
-    ghost invariant = { λ block. (16 < block.len) × (block.len ≤ N) };
+    ghost invariant = { λ block. (24 < block.len) × (block.len ≤ N) };
 }
 
 impl<const N: usize> Block<N> {
     pub fn from_slice(slice: &[u8]) -> Block<N>
-        requires more { 16 < length slice.now }
+        requires more { 24 < length slice.now }
         requires few { length slice.now ≤ N }
         requires most { N ≤ 255 }
         ensures { result ≡ slice.now }
@@ -43,7 +43,7 @@ impl<const N: usize> Block<N> {
 
     /// Does nothing. Its contract says that there are more bytes than a short string has.
     pub fn look(&self)
-        ensures { 16 < length self.now }
+        ensures { 24 < length self.now }
     {
         let _len = self.len;
     }

@@ -13,7 +13,7 @@ use std::cmp::Ordering;
 use std::marker::Model;
 use std::sync::Arc;
 
-/// A key or a value, whose bytes never change. Up to 16 of them are stored inline, more are
+/// A key or a value, whose bytes never change. Up to 24 of them are stored inline, more are
 /// allocated. Copies of what `from_slice` made share its allocation.
 #[derive(Debug)]
 pub struct Bytes {
@@ -60,11 +60,11 @@ impl Bytes {
     /// A copy of the bytes.
     pub fn from_slice(alloc: Global, bytes: &[u8]) -> Result<Bytes, AllocError>
         ensures copy { IfOk result (λ copy. copy ≡ bytes.now) }
-        ensures short { length bytes.now ≤ 16 → IsOk result }
+        ensures short { length bytes.now ≤ 24 → IsOk result }
     {
         let storage = match bytes.len() {
-            0..=16 => Storage::Inline(Short::from_slice(bytes)),
-            17..=63 => Storage::Small(Arc::new(alloc, Block::from_slice(bytes))?),
+            0..=24 => Storage::Inline(Short::from_slice(bytes)),
+            25..=63 => Storage::Small(Arc::new(alloc, Block::from_slice(bytes))?),
             64..=127 => Storage::Middle(Arc::new(alloc, Block::from_slice(bytes))?),
             128..=255 => Storage::Large(Arc::new(alloc, Block::from_slice(bytes))?),
             _ => Storage::Long(Arc::new(alloc, Long::from_slice(alloc, bytes)?)?),
@@ -88,7 +88,7 @@ impl Bytes {
     /// An equal copy.
     pub fn try_copy(&self) -> Result<Bytes, AllocError>
         ensures copy { IfOk result (λ copy. copy ≡ self.now) }
-        ensures short { length self.now ≤ 16 → IsOk result }
+        ensures short { length self.now ≤ 24 → IsOk result }
     {
         let storage = match &self.storage {
             Storage::Inline(short) => Storage::Inline(short.copied()),

@@ -38,7 +38,7 @@ impl Long {
 
     /// Does nothing. Its contract says that there are more bytes than a short string has.
     pub fn look(&self)
-        ensures { 16 < length self.now }
+        ensures { 24 < length self.now }
     {
         let _bytes = &self.bytes;
     }

@@ -98,7 +98,7 @@ impl PairList {
     }
 
     /// Copies of the values under the key, in byte order. None,
-    /// or a single one of up to 16 bytes, needs no memory.
+    /// or a single one of up to 24 bytes, needs no memory.
     pub fn values(&self, alloc: Global, key: &[u8]) -> Result<Values, AllocError>
         ensures copy { IfOk result (λ values. values ≡ values_at key.now self.now) }
         ensures few { AreFew (values_at key.now self.now) → IsOk result }

@@ -18,7 +18,7 @@ pub enum Reply {
 }
 
 impl Reply {
-    /// An equal copy. Only values need memory: two or more of them, or a single one above 16 bytes.
+    /// An equal copy. Only values need memory: two or more of them, or a single one above 24 bytes.
     pub fn try_copy(&self) -> Result<Reply, AllocError>
         ensures copy { IfOk result (λ copy. copy ≡ self.now) }
         ensures memory { OnErr result (IsValues self.now) }

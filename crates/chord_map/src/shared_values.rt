@@ -109,7 +109,7 @@ impl SharedValues {
         }
     }
 
-    /// An equal copy. No value, or a single one of up to 16 bytes, needs no memory.
+    /// An equal copy. No value, or a single one of up to 24 bytes, needs no memory.
     pub fn try_copy(&self) -> Result<SharedValues, AllocError>
         ensures copy { IfOk result (λ copy. copy ≡ self.now) }
         ensures few { AreFew self.now → IsOk result }

@@ -3,14 +3,11 @@ ghost use Rattle.std.specs.Prelude.{◌≡◌, ◌≤◌, length, take};
 
 use std::marker::Model;
 
-/// The most bytes of a short string.
-pub const LIMIT: usize = 16;
-
-/// Up to 16 bytes, stored inline.
+/// Up to 24 bytes, stored inline.
 #[derive(Debug, Drop)]
 pub struct Short {
     len: usize,
-    bytes: [u8; 16],
+    bytes: [u8; 24],
 }
 
 impl Model for Short {
@@ -20,15 +17,15 @@ impl Model for Short {
 
     ghost view = { λ short. take short.len short.bytes };
 
-    ghost invariant = { λ short. short.len ≤ 16 };
+    ghost invariant = { λ short. short.len ≤ 24 };
 }
 
 impl Short {
     pub fn from_slice(slice: &[u8]) -> Short
-        requires { length slice.now ≤ 16 }
+        requires { length slice.now ≤ 24 }
         ensures { result ≡ slice.now }
     {
-        let mut bytes = [0; 16];
+        let mut bytes = [0; 24];
         bytes[..slice.len()].copy_from_slice(slice);
         Short {
             len: slice.len(),

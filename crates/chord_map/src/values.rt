@@ -132,7 +132,7 @@ impl Values {
         }
     }
 
-    /// The same values, for a reply. No value, or a single one of up to 16 bytes, needs no memory.
+    /// The same values, for a reply. No value, or a single one of up to 24 bytes, needs no memory.
     pub fn share(self) -> Result<SharedValues, AllocError>
         ensures same { IfOk result (λ shared. shared ≡ self) }
         ensures few { AreFew self → IsOk result }
@@ -145,7 +145,7 @@ impl Values {
         }
     }
 
-    /// An equal copy. No value, or a single one of up to 16 bytes, needs no memory.
+    /// An equal copy. No value, or a single one of up to 24 bytes, needs no memory.
     pub fn try_copy(&self) -> Result<Values, AllocError>
         ensures copy { IfOk result (λ copy. copy ≡ self.now) }
         ensures few { AreFew self.now → IsOk result }

@@ -56,7 +56,7 @@ pub trait EntryStore: Drop {
         ensures few { HasFew (content self.now) };
 
     /// The values under the key, in byte order. None, or
-    /// a single one of up to 16 bytes, needs no memory.
+    /// a single one of up to 24 bytes, needs no memory.
     fn values(&self, alloc: Global, id: Id, key: &Bytes) -> Result<Values, AllocError>
         requires { id.number ≡ key_id key.now }
         ensures copy { IfOk result (λ values. values ≡ values_at key.now (content self.now)) }

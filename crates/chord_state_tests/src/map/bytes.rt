@@ -32,20 +32,20 @@ fn bytes_compare_one_by_one(rt: HostRuntime) {
     check!(&rt; found == [same, less, Some((Ordering::Greater, false)), less]);
 }
 
-// Sixteen bytes are stored inline, more in a block of 63, 127 or 255, and more than that in a
+// Up to 24 bytes are stored inline, more in a block of 63, 127 or 255, and more than that in a
 // vector.
 #[test]
 fn short_and_long_bytes_compare(rt: HostRuntime) {
     let alloc = rt.alloc();
     let less = Some((Ordering::Less, false));
     let found = [
-        compared(alloc, &[7; 16], &[7; 17]),
-        compared(alloc, &[7; 17], &[8; 16]),
+        compared(alloc, &[7; 24], &[7; 25]),
+        compared(alloc, &[7; 25], &[8; 24]),
         compared(alloc, &[7; 63], &[7; 64]),
         compared(alloc, &[7; 64], &[8; 63]),
         compared(alloc, &[7; 127], &[7; 128]),
         compared(alloc, &[7; 255], &[7; 256]),
-        compared(alloc, &[7; 17], &[7; 17]),
+        compared(alloc, &[7; 25], &[7; 25]),
         compared(alloc, &[7; 64], &[7; 64]),
     ];
     let same = Some((Ordering::Equal, true));
@@ -76,8 +76,8 @@ fn bytes_are_the_same_wherever_they_stand(rt: HostRuntime) {
     let alloc = rt.alloc();
     let are_equal = [
         are_all_equal(alloc, b"x"),
-        are_all_equal(alloc, &[7; 16]),
-        are_all_equal(alloc, &[7; 17]),
+        are_all_equal(alloc, &[7; 24]),
+        are_all_equal(alloc, &[7; 25]),
         are_all_equal(alloc, &[7; 63]),
         are_all_equal(alloc, &[7; 64]),
         are_all_equal(alloc, &[7; 127]),
@@ -103,8 +103,8 @@ fn outlives(alloc: Global, bytes: &[u8]) -> Option<bool> {
 fn a_copy_outlives_what_it_was_made_of(rt: HostRuntime) {
     let alloc = rt.alloc();
     let found = [
-        outlives(alloc, &[7; 16]),
-        outlives(alloc, &[7; 17]),
+        outlives(alloc, &[7; 24]),
+        outlives(alloc, &[7; 25]),
         outlives(alloc, &[7; 63]),
         outlives(alloc, &[7; 127]),
         outlives(alloc, &[7; 255]),

@@ -17,7 +17,7 @@ use std::test::Fail;
 const COUNT: u8 = 36;
 
 // A length that needs memory.
-const LONG: usize = 17;
+const LONG: usize = 25;
 
 // The pairs with even numbers below `even` and with odd numbers below `odd`.
 #[derive(Clone, Copy)]
