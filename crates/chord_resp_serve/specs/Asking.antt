@@ -73,6 +73,11 @@ heard t asked.Full = Err (stopped.StoreFull t.done)
 heard t asked.NoAnswer = Err (stopped.NoAnswer t.done)
 heard t asked.Memory = Err stopped.Memory
 
+-- what a command's requests came to, by how they ended and the tally then
+abbrev pub outcome_of : Result (Unit {0}) Stopped → Tally → Result Tally Stopped
+outcome_of (Ok done) t = Ok t
+outcome_of (Err s) t = Err s
+
 -- the number of the next request
 abbrev pub next_number : ℕ → ℕ
 next_number asked = min (asked + 1) (2 ^ 64 - 1)

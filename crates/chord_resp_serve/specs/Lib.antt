@@ -2,3 +2,4 @@ pub mod Asking
 pub mod Answering
 pub mod Words
 pub mod Connections
+pub mod Stored

@@ -1,6 +1,6 @@
 //! The requests of a command, one by one.
 ghost use Rattle.std.specs.Prelude.{◌≡◌, ◌≤◌, ◌<◌, ◌+◌, ◌^◌, length};
-ghost use Rattle.chord_resp_serve.specs.Asking.{asked_one, AsksFrom};
+ghost use Rattle.chord_resp_serve.specs.Asking.{asked_one, outcome_of, AsksFrom};
 
 use crate::numbers::Numbers;
 use crate::tally::{Stopped, Tally};
@@ -20,24 +20,24 @@ impl Numbers {
     }
 }
 
-/// Asks the requests in order, up to the first that is not done.
+/// Asks the requests in order, up to the first that is not done, and tallies the answers.
 pub fn ask_each<A: Asker>(
     asker: &mut A,
     numbers: &mut Numbers,
     requests: &[Request],
-    tally: Tally,
-) -> Result<Tally, Stopped>
-    requires few { tally.count ≤ tally.done }
-    requires fits { tally.done + length requests.now < 2 ^ 64 }
-    ensures { AsksFrom A.answers numbers.old asker.old tally requests.now result numbers.new asker.new }
+    tally: &mut Tally,
+) -> Result<(), Stopped>
+    requires few { tally.old.count ≤ tally.old.done }
+    requires fits { tally.old.done + length requests.now < 2 ^ 64 }
+    ensures { AsksFrom A.answers numbers.old asker.old tally.old requests.now (outcome_of result tally.new) numbers.new asker.new }
 {
     match requests {
-        [] => Ok(tally),
+        [] => Ok(()),
         [request, rest @ ..] => {
             let answer = asker.ask(request);
             numbers.note(&answer);
-            match tally.heard(answer) {
-                Ok(tally) => ask_each(asker, numbers, rest, tally),
+            match tally.hear(answer) {
+                Ok(()) => ask_each(asker, numbers, rest, tally),
                 Err(stopped) => Err(stopped),
             }
         }

@@ -1,6 +1,6 @@
 //! One command of a connection.
 ghost use Rattle.std.specs.Prelude.{◌≡◌, length};
-ghost use Rattle.chord_resp_serve.specs.Asking.{requests_of};
+ghost use Rattle.chord_resp_serve.specs.Asking.{requests_of, outcome_of};
 ghost use Rattle.chord_resp_serve.specs.Answering.{AnswersCommand, Tells};
 
 use crate::about::About;
@@ -21,13 +21,14 @@ fn tell(
     about: About<'_>,
     command: &Command,
     requests: usize,
-    outcome: Result<Tally, Stopped>,
+    tally: &Tally,
+    outcome: Result<(), Stopped>,
 ) -> Result<(), AllocError>
     requires { requests ≡ length (requests_of command.now) }
-    ensures { Tells about.entry command.now outcome result out.old.items out.new.items }
+    ensures { Tells about.entry command.now (outcome_of outcome tally.now) result out.old.items out.new.items }
 {
     match outcome {
-        Ok(tally) => put_answer(alloc, out, about, command, &tally),
+        Ok(()) => put_answer(alloc, out, about, command, tally),
         Err(stopped) => match stopped.refusal(requests as u64) {
             Some(refusal) => put_refusal(alloc, out, &refusal),
             None => Err(AllocError),
@@ -48,13 +49,15 @@ pub fn answer_command<A: Asker>(
 ) -> Result<(), AllocError>
     ensures { AnswersCommand A.answers about.entry command.now numbers.old asker.old result out.old.items out.new.items numbers.new asker.new }
 {
-    let requests = requests_of(alloc, command)?;
+    let stored = requests_of(alloc, command)?;
+    let requests = stored.as_slice();
+    let mut tally = Tally::new();
     if requests.is_empty() {
-        return put_answer(alloc, out, about, command, &Tally::new());
+        return put_answer(alloc, out, about, command, &tally);
     }
     if !settle(asker, numbers)? {
         return put_refusal(alloc, out, &Refusal::Unsettled);
     }
-    let outcome = ask_each(asker, numbers, &requests, Tally::new());
-    tell(alloc, out, about, command, requests.len(), outcome)
+    let outcome = ask_each(asker, numbers, requests, &mut tally);
+    tell(alloc, out, about, command, requests.len(), &tally, outcome)
 }

@@ -1,6 +1,6 @@
 //! What the replies to a command's requests come to.
-ghost use Rattle.std.specs.Prelude.{◌≡◌, ◌≤◌, ◌<◌, ◌+◌, ◌-◌, ◌^◌, IfOk};
-ghost use Rattle.chord_resp_serve.specs.Asking.{counts, is_full, heard, empty_tally};
+ghost use Rattle.std.specs.Prelude.{◌≡◌, ◌≤◌, ◌<◌, ◌+◌, ◌-◌, ◌^◌, OnOk, OnErr};
+ghost use Rattle.chord_resp_serve.specs.Asking.{counts, is_full, heard, empty_tally, outcome_of};
 
 use chord_map::Reply;
 use chord_serve::Asked;
@@ -51,13 +51,14 @@ impl Tally {
         }
     }
 
-    /// The tally with one more answer.
-    pub fn heard(self, answer: Asked) -> Result<Tally, Stopped>
-        requires more { self.done < 2 ^ 64 - 1 }
-        requires few { self.count ≤ self.done }
-        ensures heard { result ≡ heard self answer }
-        ensures done { IfOk result (λ t. t.done ≡ self.done + 1) }
-        ensures few { IfOk result (λ t. t.count ≤ t.done) }
+    /// Takes one more answer in. One that is no reply, or a full set, changes nothing.
+    pub fn hear(&mut self, answer: Asked) -> Result<(), Stopped>
+        requires more { self.old.done < 2 ^ 64 - 1 }
+        requires few { self.old.count ≤ self.old.done }
+        ensures heard { outcome_of result self.new ≡ heard self.old answer }
+        ensures done { OnOk result (self.new.done ≡ self.old.done + 1) }
+        ensures few { OnOk result (self.new.count ≤ self.new.done) }
+        ensures kept { OnErr result (self.new ≡ self.old) }
     {
         match answer {
             Asked::Full => Err(Stopped::StoreFull(self.done)),
@@ -67,16 +68,12 @@ impl Tally {
                 if is_full(&reply) {
                     return Err(Stopped::SetFull(self.done));
                 }
-                let count = if counts(&reply) {
-                    self.count + 1
-                } else {
-                    self.count
-                };
-                Ok(Tally {
-                    done: self.done + 1,
-                    count,
-                    last: Some(reply),
-                })
+                if counts(&reply) {
+                    self.count += 1;
+                }
+                self.done += 1;
+                self.last = Some(reply);
+                Ok(())
             }
         }
     }
