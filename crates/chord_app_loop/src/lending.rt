@@ -1,5 +1,5 @@
 //! Lends connections to event loops.
-ghost use Rattle.std.specs.Prelude.{◌≡◌, ◌*◌, [], MatchOption, vec_len};
+ghost use Rattle.std.specs.Prelude.{◌≡◌, ◌*◌, [], IfOk, MatchOption, vec_len};
 ghost use Rattle.chord_app_loop.specs.declared.lent.Why.TheVariants.{Busy};
 
 use crate::crowd::Crowd;
@@ -34,7 +34,11 @@ impl<'a, A: Drop, I> Lending<'a, A, I> {
         loops: &'a Loops,
         crowd: &'a Crowd,
         source: &'a I,
-    ) -> Result<Lending<'a, A, I>, AllocError> {
+    ) -> Result<Lending<'a, A, I>, AllocError>
+        ensures loops { IfOk result (λ lending. lending.loops ≡ loops.entry) }
+        ensures crowd { IfOk result (λ lending. lending.crowd ≡ crowd.entry) }
+        ensures source { IfOk result (λ lending. lending.source ≡ source.entry) }
+    {
         let (inbox, lent) = crossbeam_channel::unbounded(alloc)?;
         Ok(Lending {
             inbox,

@@ -1,5 +1,5 @@
 //! What event loops wait with.
-ghost use Rattle.std.specs.Prelude.{◌≡◌, ◌≤◌, IfOk, vec_len};
+ghost use Rattle.std.specs.Prelude.{◌≡◌, ◌≤◌, ◌%◌, IfOk, MatchOption, Some, vec_len, slice_get};
 
 use mio::{Events, Poll, Token, Waker};
 use std::alloc::{AllocError, Global};
@@ -78,7 +78,9 @@ impl Loops {
     }
 
     /// The one of this number. Numbers go round.
-    pub(crate) fn get(&self, number: u64) -> Option<&Loop> {
+    pub(crate) fn get(&self, number: u64) -> Option<&Loop>
+        ensures { MatchOption result (vec_len self.now.all ≡ 0) (λ one. slice_get self.now.all.items (number % vec_len self.now.all) ≡ Some one.now) }
+    {
         let at = usize::try_from(number % self.count().max(1)).ok()?;
         self.all.get(at)
     }
