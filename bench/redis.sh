@@ -1,18 +1,21 @@
 #!/usr/bin/env bash
 # Redis's own tools as clients of `chord serve --redis`, and both servers beside each other:
-#     bench/redis.sh [REQUESTS [ROUNDS]]     requests a cell (100,000), and rounds (3)
+#     bench/redis.sh [REQUESTS [TURNS]]     requests a run (40,000), and turns of a cell (15)
 # Needs the toolchain and redis-cli. What also needs redis-server with redis-benchmark, or python3
-# with its module redis, is skipped with a word where they are missing; it installs nothing. Rows of
-# the last part are medians of requests a second as multiples of Redis's in the same round, over 16
-# nodes: of keys that lie on all nodes, and of one key, which lies on one. KINDS names some of these
-# rows, and SHAPES the cells, as "1 1,16 1": how many connections, and commands in flight on each.
-# THREADS gives redis-benchmark this number of threads; without it, it has one. With PROCESSES=1 each
-# connection is that of a redis-benchmark of its own, and a rate is that of all, with their starts.
-# A ring does 1,000 rounds of upkeep once its nodes are there, so its clients begin REST seconds
-# later (3). It ends with a status other than 0 where a client was answered otherwise than it says.
+# with its module redis, is skipped with a word where they are missing; it installs nothing. The last
+# part has both servers up, ours over 16 nodes, and gives them their runs in turn, so that what the
+# machine does meanwhile slows both. A row is the requests a second as a multiple of Redis's in the
+# same turn: the lowest, the middle and the highest; of keys that lie on all nodes, and of one key,
+# which lies on one. KINDS names some of these rows, and SHAPES the cells, as "1 1,16 1": how many
+# connections, and commands in flight on each. THREADS gives redis-benchmark this number of threads;
+# without it, it has one. It tells its time in quarters of a second then, so give it requests for
+# some seconds. With PROCESSES=1 each connection is that of a redis-benchmark of its own, and a rate
+# is that of all, with their starts. A ring does 1,000 rounds of upkeep once its nodes are there, so
+# its clients begin REST seconds later (3). It ends with a status other than 0 where a client was
+# answered otherwise than it says.
 set -euo pipefail
 cd "$(dirname "$0")/.."
-requests=${1-100000} rounds=${2-3} port=17600
+requests=${1-40000} turns=${2-15} port=17600
 for word in redis-cli rt; do
     command -v "$word" > /dev/null || { echo "bench/redis.sh needs $word" >&2 && exit 2; }
 done
@@ -163,11 +166,10 @@ ask_apart() {
     awk -v done=$((each * clients)) -v taken=$(($(date +%s%N) - begun)) 'BEGIN { printf "%.0f\n", done * 1e9 / taken }'
 }
 
-# cell SERVER KIND CLIENTS FLIGHT: sets `rate` to the requests a second that redis-benchmark says.
-cell() {
-    local words keys=10000
-    start "$1"
-    case $2 in
+# words_of KIND: sets what redis-benchmark asks, and of how many keys.
+words_of() {
+    keys=10000
+    case $1 in
     SADD) words='SADD key:__rand_int__ member:__rand_int__' keys=100000 ;;
     SMEMBERS1) words='SMEMBERS one:__rand_int__' ;;
     SMEMBERS100) words='SMEMBERS hundred:__rand_int__' keys=1000 ;;
@@ -176,29 +178,46 @@ cell() {
     SMEMBERS100-one-key) words='SMEMBERS hundred' ;;
     SISMEMBER-one-key) words='SISMEMBER one a' ;;
     esac
-    fill
+}
+
+# rate PORT CLIENTS FLIGHT: the requests a second that redis-benchmark says of the server there.
+rate() {
+    port=$1
     if [ -n "${PROCESSES-}" ]; then
-        rate=$(ask_apart "$3" "$4" $keys $words)
+        ask_apart "$2" "$3" $keys $words
     else
-        rate=$(redis-benchmark -p $port -n "$requests" -r $keys -c "$3" -P "$4" ${THREADS:+--threads $THREADS} --csv $words | tail -1 | cut -d, -f2 | tr -d '"')
+        redis-benchmark -p $port -n "$requests" -r $keys -c "$2" -P "$3" ${THREADS:+--threads $THREADS} --csv $words | tail -1 | cut -d, -f2 | tr -d '"'
     fi
-    stop
 }
 
 for kind in ${KINDS-SADD SMEMBERS1 SMEMBERS100 SISMEMBER SMEMBERS1-one-key SMEMBERS100-one-key SISMEMBER-one-key}; do
-    echo "$kind: as a multiple of Redis (requests a second of Redis)"
+    echo "$kind: as a multiple of Redis, the lowest, the middle and the highest (requests a second of Redis)"
+    words_of "$kind"
+    start redis
+    redis=$port redis_server=$server
+    fill
+    start chord
+    chord=$port
+    fill
     IFS=, read -ra shapes <<< "${SHAPES-1 1,16 1,64 1,1 16,16 16,64 16}"
     for shape in "${shapes[@]}"; do
         : > "$room/rows"
-        for _ in $(seq "$rounds"); do
-            cell redis $kind $shape
-            of_redis=$rate
-            cell chord $kind $shape
-            echo "$rate $of_redis" >> "$room/rows"
+        for turn in $(seq "$turns"); do
+            if [ $((turn % 2)) = 0 ]; then
+                of_redis=$(rate $redis $shape)
+                of_chord=$(rate $chord $shape)
+            else
+                of_chord=$(rate $chord $shape)
+                of_redis=$(rate $redis $shape)
+            fi
+            echo "$of_chord $of_redis" >> "$room/rows"
         done
-        ratio=$(awk '{ printf "%.2f\n", $1 / $2 }' "$room/rows" | median)
+        ratios=$(awk '{ printf "%.2f\n", $1 / $2 }' "$room/rows" | sort -g)
         base=$(awk '{ print $2 }' "$room/rows" | median)
-        echo "  -c ${shape/ / -P }: $ratio ($base)"
+        echo "  -c ${shape/ / -P }: $(head -1 <<< "$ratios"), $(median <<< "$ratios"), $(tail -1 <<< "$ratios") ($base)"
     done
+    stop
+    kill $redis_server
+    wait $redis_server 2> /dev/null || true
 done
 exit $wrong
