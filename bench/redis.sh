@@ -10,8 +10,9 @@
 # connections, and commands in flight on each. THREADS gives redis-benchmark this number of threads;
 # without it, it has one. It tells its time in quarters of a second then, so give it requests for
 # some seconds. With PROCESSES=1 each connection is that of a redis-benchmark of its own, and a rate
-# is that of all, with their starts. A ring does 1,000 rounds of upkeep once its nodes are there, so
-# its clients begin REST seconds later (3). It ends with a status other than 0 where a client was
+# is that of all, with their starts. With OTHER=PORT the server that is up there is measured in place
+# of ours, such as that of bench/idle.c. A ring does 1,000 rounds of upkeep once its nodes are there,
+# so its clients begin REST seconds later (3). It ends with a status other than 0 where a client was
 # answered otherwise than it says.
 set -euo pipefail
 cd "$(dirname "$0")/.."
@@ -196,9 +197,12 @@ for kind in ${KINDS-SADD SMEMBERS1 SMEMBERS100 SISMEMBER SMEMBERS1-one-key SMEMB
     start redis
     redis=$port redis_server=$server
     fill
-    start chord
-    chord=$port
-    fill
+    chord=${OTHER-}
+    if [ -z "$chord" ]; then
+        start chord
+        chord=$port
+        fill
+    fi
     IFS=, read -ra shapes <<< "${SHAPES-1 1,16 1,64 1,1 16,16 16,64 16}"
     for shape in "${shapes[@]}"; do
         : > "$room/rows"
@@ -216,7 +220,7 @@ for kind in ${KINDS-SADD SMEMBERS1 SMEMBERS100 SISMEMBER SMEMBERS1-one-key SMEMB
         base=$(awk '{ print $2 }' "$room/rows" | median)
         echo "  -c ${shape/ / -P }: $(head -1 <<< "$ratios"), $(median <<< "$ratios"), $(tail -1 <<< "$ratios") ($base)"
     done
-    stop
+    [ -n "${OTHER-}" ] || stop
     kill $redis_server
     wait $redis_server 2> /dev/null || true
 done
