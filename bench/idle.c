@@ -1,4 +1,5 @@
-/* A server that does nothing for a command but answer it by `:1`: what no server can be ahead of.
+/* A server that does nothing for a command but answer it by `:1`: it shows how much of a rate is the
+ * client's.
  *     gcc -O2 -pthread bench/idle.c -o idle && ./idle PORT THREADS POLL_MICROSECONDS WORK_NANOSECONDS
  * Each thread asks the system for which of its connections bytes came (epoll), after it polled for
  * so long, and spends the work's time on each command. OTHER=PORT bench/redis.sh measures it beside
