@@ -54,6 +54,7 @@ fn step_of(alloc: Global, word: &str, words: &mut Words) -> Result<Step, LineFau
         "create" => create(words),
         "caller" => caller(words),
         "resend" => resend(words),
+        "giveup" => give_up(words),
         "meet" => meet(words),
         "join" => join(words),
         "cut" => cut(words),
@@ -139,6 +140,13 @@ fn resend(words: &mut Words) -> Result<Step, LineFault> {
         caller,
         via,
         number,
+    })
+}
+
+fn give_up(words: &mut Words) -> Result<Step, LineFault> {
+    Ok(Step::GiveUp {
+        caller: words.number()?,
+        number: words.number()?,
     })
 }
 

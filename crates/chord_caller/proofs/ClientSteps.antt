@@ -11,13 +11,13 @@ use Rattle.chord_caller.specs.declared.request_state.RequestState.TheVariants.{W
 use Rattle.chord_caller.specs.declared.outcome.TakeOutcome.{TakeOutcome}
 use Rattle.chord_caller.specs.declared.outcome.TakeOutcome.TheVariants.{Fresh, Known, Foreign}
 use Rattle.chord_caller.specs.Answers.{is_pending, RefusalIs, ResendIs, IsForeign, TakeIs}
-use Rattle.chord_caller.specs.Caller.{Submission, Caller, AskLetter, ToldLetter, CallerStep, submission_at, is_taken, next_number, IsSentNow, request_for_reply, fresh_for, with_request, with_reply}
+use Rattle.chord_caller.specs.Caller.{Submission, Caller, AskLetter, ToldLetter, CallerStep, submission_at, is_settled, next_number, IsSentNow, request_for_reply, fresh_for, with_request, with_reply, with_given_up}
 use Rattle.chord_caller.specs.Caller.CallerStep.{Takes, Ignores}
 use Rattle.chord_caller.specs.Slots.{request_waiting_in, is_over}
 use Rattle.chord_caller.specs.Client.{Client, IsClient, state_at, IsCoreOf, SubmitsAlike, Simulates, caller_after_taking, caller_after_hearing, heard_of, TakesAlike}
 use Rattle.chord_caller.proofs.Views.{fresh_is, known_stale}
-use Rattle.chord_caller.proofs.Steps.{submit_steps, resend_steps}
-use Rattle.chord_caller.proofs.Clients.{IsEnded, slot_by, with_waiting, taken_is, next_pushed, pushed_last, submit_core, settle_core, waits_slot, idle_slot, pending_is}
+use Rattle.chord_caller.proofs.Steps.{submit_steps, resend_steps, give_up_steps}
+use Rattle.chord_caller.proofs.Clients.{IsEnded, slot_by, with_waiting, settled_is, next_pushed, pushed_last, submit_core, settle_core, give_up_core, waits_slot, idle_slot, pending_is}
 
 -- ---- submitting
 
@@ -90,9 +90,9 @@ submitted_waits request client caller number is core =
 
 -- ---- sending again
 
--- a waiting slot is a submission that is not taken
-waits_by : (taken : Bool) (submission : Option Submission) (request : Request) → slot_by taken submission ≡ Some (Waiting request)
-    → (taken ≡ false) × (s : Submission) × (submission ≡ Some s) × (s.request ≡ request)
+-- a waiting slot is a submission that is not settled
+waits_by : (settled : Bool) (submission : Option Submission) (request : Request) → slot_by settled submission ≡ Some (Waiting request)
+    → (settled ≡ false) × (s : Submission) × (submission ≡ Some s) × (s.request ≡ request)
 waits_by true submission request e = cc
 waits_by false None request e = absurd (none-some (Waiting request) e)
 waits_by false (Some s) request e =
@@ -100,8 +100,8 @@ waits_by false (Some s) request e =
     (refl, s, refl, same)
 
 waits_at : (client : Client) (caller : Caller) → IsCoreOf client caller → (number : ℕ) (request : Request) → state_at number client ≡ Some (Waiting request)
-    → (is_taken caller number ≡ false) × (s : Submission) × (submission_at number caller.submitted ≡ Some s) × (s.request ≡ request)
-waits_at client caller core number request e = waits_by (is_taken caller number) (submission_at number caller.submitted) request (sym (core.slots_are number) ∙ e)
+    → (is_settled caller number ≡ false) × (s : Submission) × (submission_at number caller.submitted ≡ Some s) × (s.request ≡ request)
+waits_at client caller core number request e = waits_by (is_settled caller number) (submission_at number caller.submitted) request (sym (core.slots_are number) ∙ e)
 
 pub resend_alike : (number : ℕ) (client : Client) (request : Request) (ask : Ask) (caller : Caller) → request_waiting_in (state_at number client) ≡ Some request
     → IsAsked client number request ask → IsCoreOf client caller → ResendIs number caller (Ok ask)
@@ -152,9 +152,9 @@ core_stays told client caller none core = subst (λ (c : Caller). IsCoreOf clien
 
 pub known_alike : (told : Told) (client : Client) → told.caller ≡ client.number → is_over (state_at told.number client) ≡ true → TakesAlike told client Known client
 known_alike told client own over caller core =
-    let taken : is_taken caller told.number ≡ true = taken_is client caller core.slots_are told.number ∙ over in
-    let none = known_stale told caller taken in
-    (core_stays told client caller none core, (own ∙ core.number_is, taken, stays told caller none))
+    let settled : is_settled caller told.number ≡ true = settled_is client caller core.slots_are told.number ∙ over in
+    let none = known_stale told caller settled in
+    (core_stays told client caller none core, (own ∙ core.number_is, settled, stays told caller none))
 
 cond_same : (b : Bool) (o : Option Request) → o ≡ None → cond b o None ≡ None
 cond_same true o e = e
@@ -163,13 +163,13 @@ cond_same false o e = refl
 -- a reply that fits no submitted request is not fresh
 unfit_stale : (told : Told) (caller : Caller) → request_for_reply told.reply (submission_at told.number caller.submitted) ≡ None → fresh_for told caller ≡ None
 unfolding fresh_for
-unfit_stale told caller e = cond_same (eqb told.caller caller.number && not (is_taken caller told.number)) (request_for_reply told.reply (submission_at told.number caller.submitted)) e
+unfit_stale told caller e = cond_same (eqb told.caller caller.number && not (is_settled caller told.number)) (request_for_reply told.reply (submission_at told.number caller.submitted)) e
 
 another_stale : (told : Told) (caller : Caller) → told.caller ≢ caller.number → fresh_for told caller ≡ None
 unfolding fresh_for
 another_stale told caller apart =
-    cond-false (eqb told.caller caller.number && not (is_taken caller told.number)) (request_for_reply told.reply (submission_at told.number caller.submitted)) None
-    (ap (λ b. b && not (is_taken caller told.number)) (ne_eqb told.caller caller.number apart))
+    cond-false (eqb told.caller caller.number && not (is_settled caller told.number)) (request_for_reply told.reply (submission_at told.number caller.submitted)) None
+    (ap (λ b. b && not (is_settled caller told.number)) (ne_eqb told.caller caller.number apart))
 
 pub foreign_stale : (told : Told) (caller : Caller) → IsForeign told caller → fresh_for told caller ≡ None
 foreign_stale told caller foreign =
@@ -178,12 +178,12 @@ foreign_stale told caller foreign =
     (λ rest.
     ⊎_elim
     (λ (absent : submission_at told.number caller.submitted ≡ None). unfit_stale told caller (ap (request_for_reply told.reply) absent))
-    (λ (misfit : (s : Submission) × (submission_at told.number caller.submitted ≡ Some s) × (is_taken caller told.number ≡ false) × (fits told.reply s.request ≡ false)).
+    (λ (misfit : (s : Submission) × (submission_at told.number caller.submitted ≡ Some s) × (is_settled caller told.number ≡ false) × (fits told.reply s.request ≡ false)).
     unfit_stale told caller (ap (request_for_reply told.reply) misfit.1 ∙ cond-false (fits told.reply (misfit.0).request) (Some (misfit.0).request) None misfit.3))
     rest)
     foreign
 
-none_by : (taken : Bool) (submission : Option Submission) → slot_by taken submission ≡ None → submission ≡ None
+none_by : (settled : Bool) (submission : Option Submission) → slot_by settled submission ≡ None → submission ≡ None
 none_by true submission e = absurd (none-some Over (sym e))
 none_by false None e = refl
 none_by false (Some s) e = absurd (none-some (Waiting s.request) (sym e))
@@ -203,10 +203,20 @@ pub absent_alike : (told : Told) (client : Client) → is_over (state_at told.nu
 absent_alike told client over none caller core =
     let absent : state_at told.number client ≡ None = idle_slot (state_at told.number client) over none in
     foreign_alike told client caller core
-    (inr (inl (none_by (is_taken caller told.number) (submission_at told.number caller.submitted) (sym (core.slots_are told.number) ∙ absent))))
+    (inr (inl (none_by (is_settled caller told.number) (submission_at told.number caller.submitted) (sym (core.slots_are told.number) ∙ absent))))
 
 -- a reply that does not fit its pending request
 pub unfit_alike : (told : Told) (client : Client) (request : Request) → request_waiting_in (state_at told.number client) ≡ Some request → fits told.reply request ≡ false → TakesAlike told client Foreign client
 unfit_alike told client request waits misfit caller core =
     let at = waits_at client caller core told.number request (waits_slot (state_at told.number client) request waits) in
     foreign_alike told client caller core (inr (inr (at.1, at.2, at.0, ap (fits told.reply) at.3 ∙ misfit)))
+
+-- ---- giving up
+
+pub given_up_alike : (given : ℕ) (request : Request) (old new : Client) → IsEnded given request old new → (caller : Caller) → IsCoreOf old caller → IsCoreOf new (with_given_up given caller)
+given_up_alike given request old new ended caller core = give_up_core given request old new caller ended core
+
+pub give_up_simulates : (given : ℕ) (old new : Client) → ((caller : Caller) → IsCoreOf old caller → is_pending given caller ≡ true)
+    → ((caller : Caller) → IsCoreOf old caller → IsCoreOf new (with_given_up given caller)) → Simulates old None new None
+give_up_simulates given old new pending alike caller core =
+    (with_given_up given caller, alike caller core, give_up_steps given caller (with_given_up given caller) (pending caller core) refl)

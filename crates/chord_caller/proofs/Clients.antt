@@ -10,10 +10,11 @@ use Rattle.chord_map.proofs.Equal.{same_or_not, eqb_same}
 use Rattle.chord_caller.specs.declared.request_state.RequestState.{RequestState}
 use Rattle.chord_caller.specs.declared.request_state.RequestState.TheVariants.{Waiting, Over}
 use Rattle.chord_caller.specs.declared.told.Told.{Told}
-use Rattle.chord_caller.specs.Caller.{Submission, Caller, submission_at, is_taken, floor_of, with_request, with_reply}
+use Rattle.chord_caller.specs.Caller.{Submission, Caller, submission_at, is_taken, is_settled, is_among, floor_of, with_request, with_reply, with_given_up}
 use Rattle.chord_caller.specs.Slots.{all_states, state_of, request_waiting_in, is_over, IsRaised}
 use Rattle.chord_caller.specs.Client.{Client, client_of, IsClient, count_of, state_at, state_in, IsCoreOf}
 use Rattle.chord_caller.specs.Answers.{new_caller, is_pending, PendingIs}
+use Rattle.chord_caller.proofs.GivenUp.{among_more}
 use Rattle.chord_caller.proofs.Floors.{upto_is}
 use Rattle.chord_caller.proofs.Places.{got_last, got_set_same, got_set_other, either_is}
 
@@ -47,35 +48,35 @@ got_kept (suc floor) states (suc place) high = got_kept floor states place (omeg
 pub count_all : (floor : ℕ) (states : List RequestState) → length (all_states floor states) ≡ floor + length states
 count_all floor states = length-append (replicate floor Over) states ∙ ap (λ n. n + length states) (length-replicate floor Over)
 
--- the slot of a number by whether it is taken and what was submitted
+-- the slot of a number by whether it is settled and what was submitted
 abbrev pub slot_by : Bool → Option Submission → Option RequestState
-slot_by taken submission = cond taken (Some Over) (option_map (λ (s : Submission). Waiting s.request) submission)
+slot_by settled submission = cond settled (Some Over) (option_map (λ (s : Submission). Waiting s.request) submission)
 
-over_by : (taken : Bool) (submission : Option Submission) → is_over (slot_by taken submission) ≡ taken
+over_by : (settled : Bool) (submission : Option Submission) → is_over (slot_by settled submission) ≡ settled
 over_by true submission = refl
 over_by false None = refl
 over_by false (Some submission) = refl
 
--- a number is taken exactly if its slot is over
-pub taken_is : (client : Client) (caller : Caller) → ((number : ℕ) → state_at number client ≡ state_in number caller) → (number : ℕ) → is_taken caller number ≡ is_over (state_at number client)
-taken_is client caller states number =
-    sym (over_by (is_taken caller number) (submission_at number caller.submitted)) ∙ ap is_over (sym (states number))
+-- a number is settled exactly if its slot is over
+pub settled_is : (client : Client) (caller : Caller) → ((number : ℕ) → state_at number client ≡ state_in number caller) → (number : ℕ) → is_settled caller number ≡ is_over (state_at number client)
+settled_is client caller states number =
+    sym (over_by (is_settled caller number) (submission_at number caller.submitted)) ∙ ap is_over (sym (states number))
 
 -- the floor of the caller is the client's
 floor_from : (client : Client) (caller : Caller) → is_over (slice_get client.states 0) ≡ false → count_of client ≡ length caller.submitted
     → ((number : ℕ) → state_at number client ≡ state_in number caller) → client.floor ≡ floor_of caller
 floor_from client caller next count states =
     let e = upto_is caller client.floor below
-    (taken_is client caller states (suc client.floor)
+    (settled_is client caller states (suc client.floor)
     ∙ ap is_over (got_kept client.floor client.states client.floor (omega arith))
     ∙ ap (λ n. is_over (slice_get client.states n)) (omega arith)
     ∙ next)
     (length caller.submitted) in
     sym (e ∙ omega arith)
   where
-    below : (number : ℕ) → 1 ≤ number → number ≤ client.floor → is_taken caller number ≡ true
+    below : (number : ℕ) → 1 ≤ number → number ≤ client.floor → is_settled caller number ≡ true
     below zero low high = absurd (omega arith)
-    below (suc place) low high = taken_is client caller states (suc place) ∙ ap is_over (got_over client.floor client.states place (omega arith))
+    below (suc place) low high = settled_is client caller states (suc place) ∙ ap is_over (got_over client.floor client.states place (omega arith))
 
 -- a client is the core of a caller if number, window, count and slots agree
 core_from : (client : Client) (caller : Caller) → client.number ≡ caller.number → client.window ≡ caller.window → is_over (slice_get client.states 0) ≡ false
@@ -89,7 +90,7 @@ core_from client caller number window next count states = record {
 }
 
 new_slots : (number window asked : ℕ) → state_at asked (client_of number window 0 []) ≡ state_in asked (new_caller number window)
-unfolding is_taken done_at
+unfolding is_settled is_taken done_at
 new_slots number window zero = refl
 new_slots number window (suc place) = refl
 
@@ -111,13 +112,13 @@ next_pushed (state ∷ states) request next = next
 abbrev pub submission_now : Request → Caller → Submission
 submission_now request caller = record { request = request; mine_seen = length caller.mine; told_seen = length caller.told }
 
-same_taken : (request : Request) (caller : Caller) (number : ℕ) → is_taken (with_request request caller) number ≡ is_taken caller number
-unfolding is_taken
-same_taken request caller number = refl
+same_settled : (request : Request) (caller : Caller) (number : ℕ) → is_settled (with_request request caller) number ≡ is_settled caller number
+unfolding is_settled is_taken
+same_settled request caller number = refl
 
 pushed_slots : (request : Request) (client : Client) (caller : Caller) → IsCoreOf client caller → (number : ℕ)
     → state_at number (with_waiting request client) ≡ state_in number (with_request request caller)
-pushed_slots request client caller core zero = core.slots_are zero ∙ ap (λ t. slot_by t None) (sym (same_taken request caller zero))
+pushed_slots request client caller core zero = core.slots_are zero ∙ ap (λ t. slot_by t None) (sym (same_settled request caller zero))
 pushed_slots request client caller core (suc place) =
     let xs = all_states client.floor client.states in
     let count : length xs ≡ length caller.submitted = count_all client.floor client.states ∙ core.count_is in
@@ -126,15 +127,15 @@ pushed_slots request client caller core (suc place) =
     ⊎_elim
     (λ (here : place ≡ length xs).
     let none : slice_get xs place ≡ None = slice_get_past xs place (omega arith) in
-    let waits : is_taken caller (suc place) ≡ false = taken_is client caller core.slots_are (suc place) ∙ ap is_over none in
+    let waits : is_settled caller (suc place) ≡ false = settled_is client caller core.slots_are (suc place) ∙ ap is_over none in
     let mine : slice_get (xs ++ Waiting request ∷ []) place ≡ Some (Waiting request) = ap (slice_get (xs ++ Waiting request ∷ [])) here ∙ got_last xs (Waiting request) in
     let theirs : slice_get (caller.submitted ++ submission_now request caller ∷ []) place ≡ Some (submission_now request caller) =
     ap (slice_get (caller.submitted ++ submission_now request caller ∷ [])) (here ∙ count) ∙ got_last caller.submitted (submission_now request caller) in
-    grown ∙ mine ∙ sym (ap₂ slot_by (same_taken request caller (suc place) ∙ waits) theirs))
+    grown ∙ mine ∙ sym (ap₂ slot_by (same_settled request caller (suc place) ∙ waits) theirs))
     (λ (there : place ≢ length xs).
     let theirs : slice_get (caller.submitted ++ submission_now request caller ∷ []) place ≡ slice_get caller.submitted place =
     got_push_other caller.submitted (submission_now request caller) place (λ e. there (e ∙ sym count)) in
-    grown ∙ got_push_other xs (Waiting request) place there ∙ core.slots_are (suc place) ∙ sym (ap₂ slot_by (same_taken request caller (suc place)) theirs))
+    grown ∙ got_push_other xs (Waiting request) place there ∙ core.slots_are (suc place) ∙ sym (ap₂ slot_by (same_settled request caller (suc place)) theirs))
     (same_or_not place (length xs))
 
 -- the request that is submitted last waits
@@ -161,7 +162,7 @@ one_found caller number call = by_test (eqb call.caller caller && eqb call.numbe
     by_test true = refl
     by_test false = refl
 
-taken_after : (told : Told) (request : Request) (caller : Caller) (number : ℕ)
+pub taken_after : (told : Told) (request : Request) (caller : Caller) (number : ℕ)
     → is_taken (with_reply told request caller) number ≡ (is_taken caller number || (eqb told.caller caller.number && eqb told.number number))
 unfolding is_taken
 taken_after told request caller number =
@@ -169,53 +170,97 @@ taken_after told request caller number =
     either_is caller.number number caller.mine (call ∷ [])
     ∙ ap (λ b. is_some (done_at caller.number number caller.mine) || b) (one_found caller.number number call)
 
-settled_slots : (told : Told) (request : Request) (client new : Client) (caller : Caller) → told.caller ≡ caller.number → IsEnded told.number request client new → IsCoreOf client caller
-    → (number : ℕ) → state_at number new ≡ state_in number (with_reply told request caller)
-settled_slots told request client new caller own settled core number =
+-- the caller settled this number, and no other
+abbrev pub SettlesOne : ℕ → Caller → Caller → Type 0
+SettlesOne settled old new = (number : ℕ) → is_settled new number ≡ (is_settled old number || eqb settled number)
+
+or_true : (b : Bool) → (b || true) ≡ true
+or_true true = refl
+or_true false = refl
+
+or_false : (b : Bool) → (b || false) ≡ b
+or_false true = refl
+or_false false = refl
+
+by_reply : (taken given own here : Bool) → own ≡ true → ((taken || (own && here)) || given) ≡ ((taken || given) || here)
+by_reply true given own here on = refl
+by_reply false true own here on = ap (λ o. (o && here) || true) on ∙ or_true here
+by_reply false false own here on = ap (λ o. (o && here) || false) on ∙ or_false here
+
+-- a reply settles its number
+reply_settles : (told : Told) (request : Request) (caller : Caller) → told.caller ≡ caller.number → SettlesOne told.number caller (with_reply told request caller)
+unfolding is_settled
+reply_settles told request caller own number =
+    ap (λ b. b || is_among number caller.given_up) (taken_after told request caller number)
+    ∙ by_reply (is_taken caller number) (is_among number caller.given_up) (eqb told.caller caller.number) (eqb told.number number) (eqb_same told.caller caller.number own)
+
+taken_before : (given : ℕ) (caller : Caller) (number : ℕ) → is_taken (with_given_up given caller) number ≡ is_taken caller number
+unfolding is_taken
+taken_before given caller number = refl
+
+or_last : (a b c : Bool) → (a || (b || c)) ≡ ((a || c) || b)
+or_last true b c = refl
+or_last false true true = refl
+or_last false true false = refl
+or_last false false true = refl
+or_last false false false = refl
+
+-- so does giving it up
+give_up_settles : (given : ℕ) (caller : Caller) → SettlesOne given caller (with_given_up given caller)
+unfolding is_settled
+give_up_settles given caller number =
+    ap₂ (λ a b. a || b) (taken_before given caller number) (among_more number given caller.given_up)
+    ∙ or_last (is_taken caller number) (eqb given number) (is_among number caller.given_up)
+
+settled_slots : (settled : ℕ) (request : Request) (client new : Client) (caller after : Caller) → after.submitted ≡ caller.submitted → SettlesOne settled caller after → IsEnded settled request client new → IsCoreOf client caller
+    → (number : ℕ) → state_at number new ≡ state_in number after
+settled_slots settled request client new caller after same settles ended core number =
     ⊎_elim
-    (λ (here : number ≡ told.number).
-    let taken : is_taken (with_reply told request caller) number ≡ true =
-    taken_after told request caller number ∙ ap₂ (λ a b. is_taken caller number || (a && b)) (eqb_same told.caller caller.number own) (eqb_same told.number number (sym here)) ∙ or_true (is_taken caller number) in
-    let at : state_at number client ≡ Some (Waiting request) = ap (λ n. state_at n client) here ∙ settled.waits in
-    over_here number (here ∙ settled.number_is) at ∙ sym (ap (λ t. slot_by t (submission_at number caller.submitted)) taken))
-    (λ (there : number ≢ told.number).
-    let taken : is_taken (with_reply told request caller) number ≡ is_taken caller number =
-    taken_after told request caller number
-    ∙ ap₂ (λ a b. is_taken caller number || (a && b)) (eqb_same told.caller caller.number own) (ne_eqb told.number number (λ e. there (sym e)))
-    ∙ or_false (is_taken caller number) in
-    same_there number (λ e. there (e ∙ sym settled.number_is)) ∙ core.slots_are number ∙ sym (ap (λ t. slot_by t (submission_at number caller.submitted)) taken))
-    (same_or_not number told.number)
+    (λ (here : number ≡ settled).
+    let over : is_settled after number ≡ true =
+    settles number ∙ ap (λ b. is_settled caller number || b) (eqb_same settled number (sym here)) ∙ or_true (is_settled caller number) in
+    let at : state_at number client ≡ Some (Waiting request) = ap (λ n. state_at n client) here ∙ ended.waits in
+    over_here number (here ∙ ended.number_is) at ∙ sym (ap (λ t. slot_by t (submission_at number after.submitted)) over))
+    (λ (there : number ≢ settled).
+    let over : is_settled after number ≡ is_settled caller number =
+    settles number ∙ ap (λ b. is_settled caller number || b) (ne_eqb settled number (λ e. there (sym e))) ∙ or_false (is_settled caller number) in
+    same_there number (λ e. there (e ∙ sym ended.number_is)) ∙ core.slots_are number
+    ∙ sym (ap₂ (λ t (all : List Submission). slot_by t (submission_at number all)) over same))
+    (same_or_not number settled)
   where
-    or_true : (b : Bool) → (b || true) ≡ true
-    or_true true = refl
-    or_true false = refl
-
-    or_false : (b : Bool) → (b || false) ≡ b
-    or_false true = refl
-    or_false false = refl
-
-    over_here : (n : ℕ) → n ≡ suc settled.place → state_at n client ≡ Some (Waiting request) → state_at n new ≡ Some Over
+    over_here : (n : ℕ) → n ≡ suc ended.place → state_at n client ≡ Some (Waiting request) → state_at n new ≡ Some Over
     over_here zero e at = absurd (none-some (Waiting request) at)
     over_here (suc place) e at =
-        let same : place ≡ settled.place = omega arith in
-        ap (λ (all : List RequestState). slice_get all place) settled.slots_are
+        let same : place ≡ ended.place = omega arith in
+        ap (λ (all : List RequestState). slice_get all place) ended.slots_are
         ∙ ap (λ p. slice_get (slice_set (all_states client.floor client.states) p Over) place) (sym same)
         ∙ got_set_same (all_states client.floor client.states) place (Waiting request) Over at
 
-    same_there : (n : ℕ) → n ≢ suc settled.place → state_at n new ≡ state_at n client
+    same_there : (n : ℕ) → n ≢ suc ended.place → state_at n new ≡ state_at n client
     same_there zero apart = refl
     same_there (suc place) apart =
-        ap (λ (all : List RequestState). slice_get all place) settled.slots_are
-        ∙ got_set_other (all_states client.floor client.states) settled.place place Over (λ e. apart (ap suc e))
+        ap (λ (all : List RequestState). slice_get all place) ended.slots_are
+        ∙ got_set_other (all_states client.floor client.states) ended.place place Over (λ e. apart (ap suc e))
+
+-- a client that ends a request is the core of the caller that settles it
+ended_core : (settled : ℕ) (request : Request) (client new : Client) (caller after : Caller) → after.number ≡ caller.number → after.window ≡ caller.window → after.submitted ≡ caller.submitted
+    → SettlesOne settled caller after → IsEnded settled request client new → IsCoreOf client caller → IsCoreOf new after
+ended_core settled request client new caller after number window same settles ended core =
+    core_from new after (ended.caller_is ∙ core.number_is ∙ sym number) (ended.window_is ∙ core.window_is ∙ sym window) ended.next
+    (sym (count_all new.floor new.states) ∙ ap (λ (all : List RequestState). length all) ended.slots_are ∙ length-set (all_states client.floor client.states) ended.place Over
+    ∙ count_all client.floor client.states ∙ core.count_is ∙ ap (λ (all : List Submission). length all) (sym same))
+    (settled_slots settled request client new caller after same settles ended core)
 
 -- a client that takes a reply is the core of the caller that does
 pub settle_core : (told : Told) (request : Request) (client new : Client) (caller : Caller) → told.caller ≡ client.number → IsEnded told.number request client new → IsCoreOf client caller
     → IsCoreOf new (with_reply told request caller)
-settle_core told request client new caller own settled core =
-    core_from new (with_reply told request caller) (settled.caller_is ∙ core.number_is) (settled.window_is ∙ core.window_is) settled.next
-    (sym (count_all new.floor new.states) ∙ ap (λ (all : List RequestState). length all) settled.slots_are ∙ length-set (all_states client.floor client.states) settled.place Over
-    ∙ count_all client.floor client.states ∙ core.count_is)
-    (settled_slots told request client new caller (own ∙ core.number_is) settled core)
+settle_core told request client new caller own ended core =
+    ended_core told.number request client new caller (with_reply told request caller) refl refl refl (reply_settles told request caller (own ∙ core.number_is)) ended core
+
+-- a client that gives a request up is the core of the caller that does
+pub give_up_core : (given : ℕ) (request : Request) (client new : Client) (caller : Caller) → IsEnded given request client new → IsCoreOf client caller → IsCoreOf new (with_given_up given caller)
+give_up_core given request client new caller ended core =
+    ended_core given request client new caller (with_given_up given caller) refl refl refl (give_up_settles given caller) ended core
 
 -- a pending number is above the floor and among those submitted
 pub waits_above : (floor : ℕ) (states : List RequestState) (number : ℕ) (request : Request) → request_waiting_in (state_of floor states number) ≡ Some request → (floor < number) × (number ≤ floor + length states)
@@ -290,12 +335,12 @@ settled_from number window floor states (suc place) request floor' states' waits
       next = raised.next;
     }
 
--- a client keeps its rules when a reply settles a slot
-pub settled_keeps : (room : ℕ) (told : Told) (request : Request) (old new : Client) → IsClient room old → told.caller ≡ old.number → IsEnded told.number request old new → (room' : ℕ) → room' ≡ room → IsClient room' new
-settled_keeps room told request old new h own ended room' same =
+-- a client keeps its rules when it ends a request
+ended_keeps : (room number : ℕ) (request : Request) (old new : Client) → IsClient room old → IsEnded number request old new → (after : Caller) → IsCoreOf new after → (room' : ℕ) → room' ≡ room → IsClient room' new
+ended_keeps room number request old new h ended after core room' same =
     let count : new.floor + length new.states ≡ old.floor + length old.states =
     sym (count_all new.floor new.states) ∙ ap (λ (all : List RequestState). length all) ended.slots_are ∙ length-set (all_states old.floor old.states) ended.place Over ∙ count_all old.floor old.states in
-    let rises = ended_rises told.number request old new ended in
+    let rises = ended_rises number request old new ended in
     let near = h.near in
     let numbered = h.numbered in
     let window = ended.window_is in
@@ -306,11 +351,21 @@ settled_keeps room told request old new h own ended room' same =
       room_is = same ∙ h.room_is ∙ sym window;
       numbered = rw count numbered;
       next = ended.next;
-      caller = with_reply told request h.caller;
-      core = settle_core told request old new h.caller own ended h.core;
+      caller = after;
+      core = core;
     }
 
-pending_by : (taken : Bool) (submission : Option Submission) → is_some (request_waiting_in (slot_by taken submission)) ≡ (is_some submission && not taken)
+-- a client keeps its rules when a reply settles a slot
+pub settled_keeps : (room : ℕ) (told : Told) (request : Request) (old new : Client) → IsClient room old → told.caller ≡ old.number → IsEnded told.number request old new → (room' : ℕ) → room' ≡ room → IsClient room' new
+settled_keeps room told request old new h own ended room' same =
+    ended_keeps room told.number request old new h ended (with_reply told request h.caller) (settle_core told request old new h.caller own ended h.core) room' same
+
+-- and when it gives a request up
+pub given_up_keeps : (room given : ℕ) (request : Request) (old new : Client) → IsClient room old → IsEnded given request old new → (room' : ℕ) → room' ≡ room → IsClient room' new
+given_up_keeps room given request old new h ended room' same =
+    ended_keeps room given request old new h ended (with_given_up given h.caller) (give_up_core given request old new h.caller ended h.core) room' same
+
+pending_by : (settled : Bool) (submission : Option Submission) → is_some (request_waiting_in (slot_by settled submission)) ≡ (is_some submission && not settled)
 pending_by true None = refl
 pending_by true (Some submission) = refl
 pending_by false None = refl
@@ -319,7 +374,7 @@ pending_by false (Some submission) = refl
 -- a number is pending in a client exactly if it is in each caller that the client is the core of
 pub pending_is : (client : Client) (caller : Caller) → IsCoreOf client caller → (number : ℕ) → is_some (request_waiting_in (state_at number client)) ≡ is_pending number caller
 pending_is client caller core number =
-    ap (λ o. is_some (request_waiting_in o)) (core.slots_are number) ∙ pending_by (is_taken caller number) (submission_at number caller.submitted)
+    ap (λ o. is_some (request_waiting_in o)) (core.slots_are number) ∙ pending_by (is_settled caller number) (submission_at number caller.submitted)
 
 -- a number up to the floor does not wait
 low_idle : (client : Client) (number : ℕ) → number ≤ client.floor → is_some (request_waiting_in (state_at number client)) ≡ false
@@ -355,3 +410,14 @@ first_pending client caller core some next =
       sym (pending_is client caller core (client.floor + 1)) ∙ ap (λ n. is_some (request_waiting_in (state_at n client))) shift ∙ here,
       λ number below. sym (pending_is client caller core number) ∙ low_idle client number (omega arith),
     )
+
+some_waits : (o : Option RequestState) → is_some (request_waiting_in o) ≡ true → (request : Request) × (request_waiting_in o ≡ Some request)
+some_waits None e = absurd (true≢false (sym e))
+some_waits (Some (Waiting request)) e = (request, refl)
+some_waits (Some Over) e = absurd (true≢false (sym e))
+
+-- a number that is pending in each caller that the client is the core of has a request that waits
+pub pending_waits : (room : ℕ) (client : Client) (number : ℕ) → IsClient room client → ((caller : Caller) → IsCoreOf client caller → is_pending number caller ≡ true)
+    → (request : Request) × (request_waiting_in (state_at number client) ≡ Some request)
+pending_waits room client number h pending =
+    some_waits (state_at number client) (pending_is client h.caller h.core number ∙ pending h.caller h.core)

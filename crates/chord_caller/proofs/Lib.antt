@@ -1,3 +1,4 @@
+pub mod GivenUp
 pub mod Floors
 pub mod Places
 pub mod Waiting

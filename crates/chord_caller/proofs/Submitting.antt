@@ -1,5 +1,5 @@
 -- A caller's fields after a new request.
-use Rattle.std.proofs.Common.{◌≡◌, ℕ, zero, suc, ◌+◌, ◌≤◌, Some, List, [], ◌∷◌, ◌++◌, map, length, length-append, slice_get, refl, ◌∙◌, ap, arith}
+use Rattle.std.proofs.Common.{◌≡◌, ℕ, zero, suc, ◌+◌, ◌≤◌, Some, List, [], ◌∷◌, ◌++◌, map, length, length-append, slice_get, refl, ◌∙◌, ap, ap₂, arith}
 use Rattle.std.proofs.lemmas.List.{map-append}
 use Rattle.std.proofs.lemmas.Option.{none-some}
 use Rattle.chord_map.specs.declared.request.Request.{Request}
@@ -8,7 +8,8 @@ use Rattle.chord_caller.specs.declared.submitted.RequestProgress.{RequestProgres
 use Rattle.chord_caller.specs.declared.submitted.RequestProgress.TheVariants.{Pending, Taken}
 use Rattle.chord_caller.specs.declared.submitted.Submitted.{Submitted}
 use Rattle.chord_caller.specs.Caller.{Submission, with_request}
-use Rattle.chord_caller.specs.Submitted.{progress_of, progress_at, is_over, IsCaller, submission_of, caller_of}
+use Rattle.chord_caller.specs.Submitted.{progress_of, progress_at, was_given_up, is_over, IsCaller, submission_of, given_up_from, caller_of}
+use Rattle.chord_caller.proofs.GivenUp.{given_up_pushed}
 
 over_pushed_at : (submitted : List Submitted) (entry : Submitted) (request : Request) → entry.progress ≡ Pending request → (place : ℕ)
     → is_over (progress_of (slice_get (submitted ++ entry ∷ []) place)) ≡ is_over (progress_of (slice_get submitted place))
@@ -57,7 +58,7 @@ submit_keeps caller window floor submitted mine entry request new within h =
       small_window = h.small_window;
       floor_is = record {
         within = let w = floors.within in simp length-append (omega arith);
-        taken = λ number low high. over_pushed submitted entry request new number ∙ floors.taken number low high;
+        settled = λ number low high. over_pushed submitted entry request new number ∙ floors.settled number low high;
         next = over_pushed submitted entry request new (suc floor) ∙ floors.next;
       };
       near = simp length-append (omega arith);
@@ -75,5 +76,7 @@ submitted_is caller window submitted mine told entry request e =
     let f = submission_of mine in
     let pushed = map-append f submitted (entry ∷ []) in
     let last : f entry ≡ record { request = request; mine_seen = length mine; told_seen = length told } = ap f e in
-    ap (λ (all : List Submission). record { number = caller; window = window; submitted = all; mine = mine; told = told })
-    (pushed ∙ ap (λ s. map f submitted ++ s ∷ []) last)
+    let gone : given_up_from 0 (submitted ++ entry ∷ []) ≡ given_up_from 0 submitted =
+    given_up_pushed 0 submitted entry (ap (λ (e : Submitted). was_given_up (Some e.progress)) e) in
+    ap₂ (λ (all : List Submission) (numbers : List ℕ). record { number = caller; window = window; submitted = all; mine = mine; told = told; given_up = numbers })
+    (pushed ∙ ap (λ s. map f submitted ++ s ∷ []) last) gone

@@ -11,10 +11,10 @@ use Rattle.chord_map.specs.History.{done_at}
 use Rattle.chord_map.proofs.Equal.{eqb_same}
 use Rattle.chord_caller.specs.declared.told.Told.{Told}
 use Rattle.chord_caller.specs.declared.submitted.Submitted.{Submitted}
-use Rattle.chord_caller.specs.Caller.{Submission, Caller, submission_at, is_taken, floor_of, next_number, with_request, request_for_reply, fresh_for}
-use Rattle.chord_caller.specs.Submitted.{submitted_at, progress_of, progress_at, is_over, IsFloor, IsTied, IsCaller, submission_of, caller_of}
+use Rattle.chord_caller.specs.Caller.{Submission, Caller, submission_at, is_taken, is_settled, floor_of, next_number, with_request, request_for_reply, fresh_for}
+use Rattle.chord_caller.specs.Submitted.{submitted_at, progress_of, progress_at, has_reply, is_over, IsFloor, IsTied, IsCaller, submission_of, caller_of}
 use Rattle.chord_caller.specs.Answers.{is_pending}
-use Rattle.chord_caller.proofs.Floors.{found_at, absent_at, is_taken_is, floor_of_is}
+use Rattle.chord_caller.proofs.Floors.{found_at, absent_at, is_settled_is, floor_of_is}
 use Rattle.chord_caller.proofs.Places.{got_last}
 use Rattle.chord_caller.proofs.Waiting.{got_beyond, is_waiting, submission_at_is, is_pending_is}
 
@@ -40,15 +40,15 @@ pub pending_asked : (number window : ℕ) (submitted : List Submitted) (mine tol
 pending_asked number window submitted mine told caller view tied asked o e =
     ap (λ s. is_waiting (progress_of s)) e ∙ sym (is_pending_is number window submitted mine told tied asked) ∙ ap (is_pending asked) view
 
--- a number is taken if its request is over
-pub taken_asked : (number window : ℕ) (submitted : List Submitted) (mine told : List Done) (caller : Caller) → caller_of number window submitted mine told ≡ caller
-    → IsTied number submitted mine → (asked : ℕ) (o : Option Submitted) → o ≡ submitted_at asked submitted → is_taken caller asked ≡ is_over (progress_of o)
-taken_asked number window submitted mine told caller view tied asked o e =
-    ap (λ c. is_taken c asked) (sym view) ∙ is_taken_is number window submitted mine told tied asked ∙ ap (λ s. is_over (progress_of s)) (sym e)
+-- a number is settled if its request is over
+pub settled_asked : (number window : ℕ) (submitted : List Submitted) (mine told : List Done) (caller : Caller) → caller_of number window submitted mine told ≡ caller
+    → IsTied number submitted mine → (asked : ℕ) (o : Option Submitted) → o ≡ submitted_at asked submitted → is_settled caller asked ≡ is_over (progress_of o)
+settled_asked number window submitted mine told caller view tied asked o e =
+    ap (λ c. is_settled c asked) (sym view) ∙ is_settled_is number window submitted mine told tied asked ∙ ap (λ s. is_over (progress_of s)) (sym e)
 
-taken_before : (caller : Caller) (request : Request) (asked : ℕ) → is_taken (with_request request caller) asked ≡ is_taken caller asked
-unfolding is_taken
-taken_before caller request asked = refl
+settled_before : (caller : Caller) (request : Request) (asked : ℕ) → is_settled (with_request request caller) asked ≡ is_settled caller asked
+unfolding is_settled is_taken
+settled_before caller request asked = refl
 
 submission_last : (submitted : List Submission) (last : Submission) → submission_at (length submitted + 1) (submitted ++ last ∷ []) ≡ Some last
 submission_last submitted last = rw add-one (got_last submitted last)
@@ -59,10 +59,10 @@ pub next_waits : (number window : ℕ) (submitted : List Submitted) (mine told :
 next_waits number window submitted mine told caller view tied request =
     let same : length caller.submitted ≡ length submitted = ap (λ (c : Caller). length c.submitted) (sym view) ∙ length-map submitted (submission_of mine) in
     let beyond : None ≡ submitted_at (length submitted + 1) submitted = rw add-one (sym (got_beyond submitted (length submitted) (omega arith))) in
-    let free : is_taken caller (next_number caller) ≡ false =
-    ap (λ n. is_taken caller (n + 1)) same ∙ taken_asked number window submitted mine told caller view tied (length submitted + 1) None beyond in
+    let free : is_settled caller (next_number caller) ≡ false =
+    ap (λ n. is_settled caller (n + 1)) same ∙ settled_asked number window submitted mine told caller view tied (length submitted + 1) None beyond in
     ap₂ (λ o b. is_some o && not b) (submission_last caller.submitted (record { request = request; mine_seen = length caller.mine; told_seen = length caller.told }))
-    (taken_before caller request (next_number caller) ∙ free)
+    (settled_before caller request (next_number caller) ∙ free)
 
 -- the call of a number is at the index in its entry
 pub found_asked : (number window : ℕ) (submitted : List Submitted) (mine told : List Done) (caller : Caller) → caller_of number window submitted mine told ≡ caller
@@ -70,9 +70,9 @@ pub found_asked : (number window : ℕ) (submitted : List Submitted) (mine told 
 found_asked number window submitted mine told caller view tied asked place e =
     found_at number submitted mine tied asked place e ∙ ap (λ (c : Caller). done_at c.number asked c.mine) view
 
--- a number without an entry that is over has no taken call
+-- a number without an entry that has a reply has no taken call
 pub absent_asked : (number window : ℕ) (submitted : List Submitted) (mine told : List Done) (caller : Caller) → caller_of number window submitted mine told ≡ caller
-    → IsTied number submitted mine → (asked : ℕ) → is_over (progress_at asked submitted) ≡ false → None ≡ done_at caller.number asked caller.mine
+    → IsTied number submitted mine → (asked : ℕ) → has_reply (progress_at asked submitted) ≡ false → None ≡ done_at caller.number asked caller.mine
 absent_asked number window submitted mine told caller view tied asked e =
     absent_at number submitted mine tied asked e ∙ ap (λ (c : Caller). done_at c.number asked c.mine) view
 
@@ -86,25 +86,25 @@ fitting_is : (told : Told) (o : Option Submission) (submission : Submission) →
 fitting_is told o submission e fit = ap (request_for_reply told.reply) e ∙ cond-true (fits told.reply submission.request) (Some submission.request) None fit
 
 -- the pending request that a reply fits
-pub fresh_is : (told : Told) (caller : Caller) (submission : Submission) → told.caller ≡ caller.number → is_taken caller told.number ≡ false
+pub fresh_is : (told : Told) (caller : Caller) (submission : Submission) → told.caller ≡ caller.number → is_settled caller told.number ≡ false
     → submission_at told.number caller.submitted ≡ Some submission → fits told.reply submission.request ≡ true → fresh_for told caller ≡ Some submission.request
 unfolding fresh_for
 fresh_is told caller submission own waits at fit =
-    cond-true (eqb told.caller caller.number && not (is_taken caller told.number)) (request_for_reply told.reply (submission_at told.number caller.submitted)) None
-    (and_from (eqb told.caller caller.number) (not (is_taken caller told.number)) (eqb_same told.caller caller.number own) (ap not waits))
+    cond-true (eqb told.caller caller.number && not (is_settled caller told.number)) (request_for_reply told.reply (submission_at told.number caller.submitted)) None
+    (and_from (eqb told.caller caller.number) (not (is_settled caller told.number)) (eqb_same told.caller caller.number own) (ap not waits))
     ∙ fitting_is told (submission_at told.number caller.submitted) submission at fit
 
--- a reply to a taken call is not fresh
-pub known_stale : (told : Told) (caller : Caller) → is_taken caller told.number ≡ true → fresh_for told caller ≡ None
+-- a reply to a settled call is not fresh
+pub known_stale : (told : Told) (caller : Caller) → is_settled caller told.number ≡ true → fresh_for told caller ≡ None
 unfolding fresh_for
-known_stale told caller taken =
-    cond-false (eqb told.caller caller.number && not (is_taken caller told.number)) (request_for_reply told.reply (submission_at told.number caller.submitted)) None
-    (off (eqb told.caller caller.number) (is_taken caller told.number) taken)
+known_stale told caller settled =
+    cond-false (eqb told.caller caller.number && not (is_settled caller told.number)) (request_for_reply told.reply (submission_at told.number caller.submitted)) None
+    (off (eqb told.caller caller.number) (is_settled caller told.number) settled)
   where
-    off : (own taken : Bool) → taken ≡ true → (own && not taken) ≡ false
+    off : (own settled : Bool) → settled ≡ true → (own && not settled) ≡ false
     off true true e = refl
     off true false e = cc
-    off false taken e = refl
+    off false settled e = refl
 
 -- a pending number is above the floor and at most 16 above it
 pub within_window : (caller window floor : ℕ) (submitted : List Submitted) (mine : List Done) → IsCaller caller window floor submitted mine
@@ -113,7 +113,7 @@ within_window caller window floor submitted mine h zero entry request at waits =
 within_window caller window floor submitted mine h (suc place) entry request at waits =
     let not_over : is_over (progress_at (suc place) submitted) ≡ false = ap (λ o. is_over (progress_of o)) (sym at) ∙ ap (λ p. is_over (Some p)) waits in
     let low : floor < suc place =
-    ⊎_elim (λ (above : floor < suc place). above) (λ (below : suc place ≤ floor). absurd (true≢false (sym ((h.floor_is).taken (suc place) (omega arith) below) ∙ not_over))) (cases_lt floor (suc place)) in
+    ⊎_elim (λ (above : floor < suc place). above) (λ (below : suc place ≤ floor). absurd (true≢false (sym ((h.floor_is).settled (suc place) (omega arith) below) ∙ not_over))) (cases_lt floor (suc place)) in
     let high : place < length submitted = slice_get_within submitted place entry (sym at) in
     let near = h.near in
     let small = h.small_window in

@@ -13,15 +13,15 @@ use Rattle.chord_caller.specs.declared.fault.TakeFault.{TakeFault}
 use Rattle.chord_caller.specs.declared.fault.TakeFault.TheVariants.{Foreign, Memory as TakeMemory}
 use Rattle.chord_caller.specs.declared.heard.Heard.{Heard}
 use Rattle.chord_caller.specs.declared.heard.Heard.TheVariants.{Fresh, Known}
-use Rattle.chord_caller.specs.Caller.{Submission, Caller, submission_at, is_taken, floor_of, IsSentNow, next_number, with_request, with_reply, fresh_for}
+use Rattle.chord_caller.specs.Caller.{Submission, Caller, submission_at, is_settled, floor_of, IsSentNow, next_number, with_request, with_reply, fresh_for}
 
 -- a caller that has submitted nothing
 abbrev pub new_caller : ℕ → ℕ → Caller
-new_caller number window = record { number = number; window = window; submitted = []; mine = []; told = [] }
+new_caller number window = record { number = number; window = window; submitted = []; mine = []; told = []; given_up = [] }
 
--- the request of this number waits for its reply
+-- the request of this number waits for its reply: it was submitted, and is not settled
 abbrev pub is_pending : ℕ → Caller → Bool
-is_pending number caller = is_some (submission_at number caller.submitted) && not (is_taken caller number)
+is_pending number caller = is_some (submission_at number caller.submitted) && not (is_settled caller number)
 
 -- the least pending number, or None if no request is pending
 abbrev pub PendingIs : Caller → Option ℕ → Type 0
@@ -51,7 +51,7 @@ RefusalIs request caller (Some fault) = SubmitIs request caller (Err fault) call
 -- The pending request of this number is sent again
 abbrev pub ResendIs : ℕ → Caller → Result Ask ResendFault → Type 0
 ResendIs number caller (Ok ask) =
-    (submission : Submission) × (submission_at number caller.submitted ≡ Some submission) × (is_taken caller number ≡ false) × IsSentNow caller number submission.request ask
+    (submission : Submission) × (submission_at number caller.submitted ≡ Some submission) × (is_settled caller number ≡ false) × IsSentNow caller number submission.request ask
 ResendIs number caller (Err Idle) = is_pending number caller ≡ false
 ResendIs number caller (Err ResendMemory) = is_pending number caller ≡ true
 
@@ -61,12 +61,12 @@ abbrev pub IsForeign : Told → Caller → Type 0
 IsForeign told caller =
     (told.caller ≢ caller.number)
     ⊎ (submission_at told.number caller.submitted ≡ None)
-    ⊎ ((submission : Submission) × (submission_at told.number caller.submitted ≡ Some submission) × (is_taken caller told.number ≡ false) × (fits told.reply submission.request ≡ false))
+    ⊎ ((submission : Submission) × (submission_at told.number caller.submitted ≡ Some submission) × (is_settled caller told.number ≡ false) × (fits told.reply submission.request ≡ false))
 
 -- A reply to a pending request is taken; one to a request
--- already over changes nothing; any other is foreign
+-- already settled changes nothing; any other is foreign
 abbrev pub TakeIs : Told → Caller → Result Heard TakeFault → Caller → Type 0
 TakeIs told old (Ok Fresh) new = (request : Request) × (fresh_for told old ≡ Some request) × (new ≡ with_reply told request old)
-TakeIs told old (Ok Known) new = (told.caller ≡ old.number) × (is_taken old told.number ≡ true) × (new ≡ old)
+TakeIs told old (Ok Known) new = (told.caller ≡ old.number) × (is_settled old told.number ≡ true) × (new ≡ old)
 TakeIs told old (Err Foreign) new = IsForeign told old × (new ≡ old)
 TakeIs told old (Err TakeMemory) new = (request : Request) × (fresh_for told old ≡ Some request) × (new ≡ old)

@@ -15,7 +15,7 @@ use Rattle.chord_caller.specs.declared.request_state.RequestState.TheVariants.{W
 use Rattle.chord_caller.specs.declared.told.Told.{Told}
 use Rattle.chord_caller.specs.Answers.{SubmitIs, TakeIs}
 use Rattle.chord_caller.specs.Slots.{state_of, is_over}
-use Rattle.chord_caller.specs.Caller.{Submission, Caller, Letter, CallerStep, submission_at, is_taken, floor_of, with_reply, fresh_for}
+use Rattle.chord_caller.specs.Caller.{Submission, Caller, Letter, CallerStep, submission_at, is_settled, floor_of, with_reply, fresh_for}
 
 -- The slots are those of the numbers above the floor, in order
 pub record Client : Type 0 where
@@ -39,10 +39,10 @@ state_at number client = state_of client.floor client.states number
 -- the slot that a client would have for this number of the caller
 abbrev pub state_in : ℕ → Caller → Option RequestState
 state_in number caller =
-    if is_taken caller number then Some Over
+    if is_settled caller number then Some Over
     else option_map (λ (submission : Submission). Waiting submission.request) (submission_at number caller.submitted)
 
--- the client has what is above this caller's floor, whatever the caller took, saw and was told
+-- the client has what is above this caller's floor, whatever the caller took, gave up, saw and was told
 pub record IsCoreOf (client : Client) (caller : Caller) : Type 0 where
   pub number_is : client.number ≡ caller.number
   pub window_is : client.window ≡ caller.window

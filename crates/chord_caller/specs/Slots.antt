@@ -19,7 +19,7 @@ request_waiting_in None = None
 request_waiting_in (Some (Waiting request)) = Some request
 request_waiting_in (Some Over) = None
 
--- whether the slot is over: its reply was taken
+-- whether the slot is over: its reply was taken, or it was given up
 abbrev pub is_over : Option RequestState → Bool
 is_over None = false
 is_over (Some (Waiting request)) = false

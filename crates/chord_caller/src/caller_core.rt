@@ -2,21 +2,23 @@
 ghost use Rattle.std.specs.Prelude.{◌≡◌, ◌≤◌, ◌++◌, None, Some, is_some, true, IfOk, OnOk, OnErr};
 ghost use Rattle.std.specs.Option.{option_copied};
 ghost use Rattle.chord_map.specs.History.{done_at};
-ghost use Rattle.chord_caller.specs.Caller.{floor_of, known_calls, unknown_calls, submission_at, AskLetter, ToldLetter, NoteLetter, CallerStep};
+ghost use Rattle.chord_caller.specs.Caller.{floor_of, known_calls, unknown_calls, submission_at, with_given_up, AskLetter, ToldLetter, NoteLetter, CallerStep};
 ghost use Rattle.chord_caller.specs.Answers.{new_caller, is_pending, PendingIs, RefusalIs, SubmitIs, ResendIs, TakeIs};
 
 use crate::ask::Ask;
 use crate::fault::{ResendFault, SubmitFault, TakeFault};
 use crate::heard::Heard;
 use crate::note::{Note, copy_unknown};
-use crate::submitted::{RequestProgress, Submitted, done_in, raise_floor, settle, submission};
+use crate::submitted::{
+    RequestProgress, Submitted, done_in, give_up_at, raise_floor, settle, submission,
+};
 use crate::told::Told;
 use chord_map::{Done, Request, copy_dones};
 use std::alloc::{AllocError, Global};
 use std::marker::Model;
 
-/// What a caller submitted, what it took, and what
-/// notes told it. At most 16 requests wait at a time.
+/// What a caller submitted, what it took, what notes told
+/// it, and what it gave up. At most 16 requests wait at a time.
 #[derive(Debug, Drop)]
 pub struct CallerCore {
     number: u64,
@@ -76,7 +78,8 @@ impl CallerCore {
         self.told.as_slice()
     }
 
-    /// The greatest number with the replies to all numbers up to it taken.
+    /// The greatest number with the requests of all numbers up to it settled: the reply was taken,
+    /// or the request was given up.
     pub fn floor(&self) -> u64
         ensures { result ≡ floor_of self.now }
     {
@@ -108,6 +111,7 @@ impl CallerCore {
             Some(submitted) => match &submitted.progress {
                 RequestProgress::Taken(place) => done_in(&self.mine, *place),
                 RequestProgress::Pending(_) => None,
+                RequestProgress::GivenUp(_) => None,
             },
             None => None,
         }
@@ -209,6 +213,18 @@ impl CallerCore {
             request,
             hops: 255,
         })
+    }
+
+    /// Gives a pending request up: it is settled without a reply, and a reply to it that comes later
+    /// is not taken. What was sent of it may have acted, or may still act, once.
+    pub fn give_up(&mut self, number: u64)
+        requires { is_pending number self.old ≡ true }
+        ensures answer { self.new ≡ with_given_up number self.old }
+        ensures step { CallerStep self.old None self.new None }
+    {
+        give_up_at(&mut self.submitted, number);
+        let submitted = &self.submitted;
+        self.floor = raise_floor(submitted, self.floor);
     }
 
     /// A note of what the caller knows.

@@ -1,6 +1,6 @@
 //! The core of a client: a caller that stores only what is above its floor.
 ghost use Rattle.std.specs.Prelude.{◌≡◌, ◌≤◌, None, Some, true, IfOk};
-ghost use Rattle.chord_caller.specs.Caller.{Caller, floor_of, AskLetter, ToldLetter};
+ghost use Rattle.chord_caller.specs.Caller.{Caller, floor_of, with_given_up, AskLetter, ToldLetter};
 ghost use Rattle.chord_caller.specs.Answers.{new_caller, is_pending, PendingIs, RefusalIs, ResendIs};
 ghost use Rattle.chord_caller.specs.Client.{IsCoreOf, SubmitsAlike, TakesAlike, HandsOut, Simulates};
 
@@ -58,7 +58,8 @@ impl ClientCore {
         self.number
     }
 
-    /// The greatest number with the replies to all numbers up to it taken.
+    /// The greatest number with the requests of all numbers up to it settled: the reply was taken,
+    /// or the request was given up.
     pub fn floor(&self) -> u64
         ensures { (caller : Caller) → IsCoreOf self.now caller → result ≡ floor_of caller }
     {
@@ -142,6 +143,16 @@ impl ClientCore {
         }
         self.floor = settle_state(&mut self.states, self.floor, told.number);
         TakeOutcome::Fresh(told.reply)
+    }
+
+    /// Gives a pending request up: it is settled without a reply, and a reply to it that comes later
+    /// is not taken. What was sent of it may have acted, or may still act, once.
+    pub fn give_up(&mut self, number: u64)
+        requires { (caller : Caller) → IsCoreOf self.old caller → is_pending number caller ≡ true }
+        ensures answer { (caller : Caller) → IsCoreOf self.old caller → IsCoreOf self.new (with_given_up number caller) }
+        ensures step { Simulates self.old None self.new None }
+    {
+        self.floor = settle_state(&mut self.states, self.floor, number);
     }
 
     /// Sends a pending request again, under its number and with the present floor.

@@ -8,7 +8,7 @@ ghost use Rattle.chord_caller.specs.Slots.{state_of, request_waiting_in, is_over
 use chord_map::Request;
 use std::collections::VecDeque;
 
-/// A submitted request: it waits, or its reply was taken.
+/// A submitted request: it waits, or it is over: its reply was taken, or it was given up.
 #[derive(Debug, Drop)]
 pub enum RequestState {
     Waiting(Request),
@@ -28,7 +28,7 @@ pub fn waiting_request(states: &VecDeque<RequestState>, floor: u64, number: u64)
     }
 }
 
-/// Whether the reply to the request of this number was taken.
+/// Whether the request of this number is over.
 pub fn is_number_over(states: &VecDeque<RequestState>, floor: u64, number: u64) -> bool
     ensures { result ≡ is_over (state_of floor states.now.items number) }
 {

@@ -2,7 +2,7 @@
 ghost use Rattle.std.specs.Prelude.{◌≡◌, ◌<◌, ◌≤◌, length, slice_get};
 ghost use Rattle.std.specs.Option.{option_copied};
 ghost use Rattle.std.specs.Vec.{vec_len, vec_capacity};
-ghost use Rattle.chord_caller.specs.Submitted.{submitted_at, IsFloor, AreTaken, IsPending, Settles};
+ghost use Rattle.chord_caller.specs.Submitted.{submitted_at, IsFloor, AreSettled, IsPending, Settles, GivesUp};
 
 use crate::told::Told;
 use chord_map::{Done, Request};
@@ -14,6 +14,8 @@ pub enum RequestProgress {
     Pending(Request),
     /// Its reply was taken. The request is in the taken call at this index.
     Taken(usize),
+    /// It was given up.
+    GivenUp(Request),
 }
 
 /// A submitted request, and how many calls its caller
@@ -42,10 +44,10 @@ pub fn done_in(dones: &[Done], place: usize) -> Option<&Done>
     dones.get(place)
 }
 
-/// Raises a floor to the greatest number with the replies to all numbers up to it taken.
+/// Raises a floor to the greatest number with the requests of all numbers up to it settled.
 pub fn raise_floor(submitted: &[Submitted], floor: u64) -> u64
     requires within { floor ≤ length submitted.now }
-    requires taken { AreTaken floor submitted.now }
+    requires settled { AreSettled floor submitted.now }
     ensures { IsFloor result submitted.now }
 {
     let mut floor = floor as usize;
@@ -76,5 +78,19 @@ pub fn settle(submitted: &mut Vec<Submitted>, mine: &mut Vec<Done>, told: Told)
             request,
             reply: told.reply,
         });
+    }
+}
+
+/// Makes the pending request of this number one that was given up.
+pub fn give_up_at(submitted: &mut Vec<Submitted>, number: u64)
+    requires { IsPending number submitted.old.items }
+    ensures { GivesUp number submitted.old.items submitted.new.items }
+{
+    let entry = &mut submitted[(number - 1) as usize];
+    if let RequestProgress::Pending(request) = replace(
+        &mut entry.progress,
+        RequestProgress::Taken(0),
+    ) {
+        entry.progress = RequestProgress::GivenUp(request);
     }
 }

@@ -1,15 +1,17 @@
 -- A caller's step keeps the invariant.
-use Rattle.std.proofs.Common.{◌≡◌, ℕ, zero, suc, ◌+◌, ◌<◌, ◌≤◌, Bool, true, false, not, ◌&&◌, eqb, ◌⊎◌, inl, inr, ⊎_elim, refl, sym, ◌∙◌, ap, subst, arith, List, [], ◌∷◌, ◌++◌, length, Option, Some, None, is_some, slice_get, length-append, add-one}
-use Rattle.std.proofs.lemmas.Bool.{and_parts, eqb-true, cond-true, cond-false, not-true, cases_lt}
+use Rattle.std.proofs.Common.{◌≡◌, ◌≢◌, ℕ, zero, suc, ◌+◌, ◌<◌, ◌≤◌, Bool, true, false, not, ◌&&◌, eqb, ◌⊎◌, inl, inr, ⊎_elim, refl, sym, ◌∙◌, ap, subst, arith, List, [], ◌∷◌, ◌++◌, length, Option, Some, None, is_some, slice_get, length-append, add-one}
+use Rattle.std.proofs.lemmas.Bool.{and_parts, eqb-true, cond-true, cond-false, not-true, cases_lt, cases_eq, ne_eqb, true≢false, or_cases, or_from, or_parts, or_right, and_right}
 use Rattle.std.proofs.lemmas.Option.{same_Some, none-some}
 use Rattle.chord_caller.specs.declared.told.Told.{Told}
-use Rattle.chord_caller.specs.Caller.{Note, Submission, Caller, submission_at, is_taken, floor_of, IsSentNow, next_number, with_request, with_reply, request_for_reply, fresh_for, known_calls, unknown_calls, CallerStep, Letter}
-use Rattle.chord_caller.specs.Caller.CallerStep.{Submits, Repeats, Takes, Ignores, Hears_full, Shows, Meets}
+use Rattle.chord_caller.specs.Caller.{Note, Submission, Caller, submission_at, is_taken, is_among, is_settled, with_number, floor_of, IsSentNow, next_number, with_request, with_reply, with_given_up, request_for_reply, fresh_for, known_calls, unknown_calls, CallerStep, Letter}
+use Rattle.chord_caller.proofs.GivenUp.{among_more}
+use Rattle.chord_caller.proofs.Clients.{taken_after}
+use Rattle.chord_caller.specs.Caller.CallerStep.{Submits, Repeats, Takes, Gives_up, Ignores, Hears_full, Shows, Meets}
 use Rattle.chord_map.proofs.Lists.{by_test, not_both, Has, Each, has_cases, has_pushed, has_filter, has_contained}
 use Rattle.chord_map.specs.declared.reply.Reply.{Reply}
 use Rattle.chord_map.specs.declared.request.Request.{Request}
 use Rattle.chord_map.specs.Map.{fits}
-use Rattle.chord_model.proofs.CallerLemmas.{Grown, AllGrown, nothing_more, grown_itself, all_grown_put, submission_grown, taken_grown, one_request, floor_taken, floor_grown}
+use Rattle.chord_model.proofs.CallerLemmas.{Grown, AllGrown, nothing_more, grown_itself, all_grown_put, submission_grown, unsettled_untaken, taken_same, settled_grown, one_request, floor_settled, floor_grown}
 use Rattle.chord_model.proofs.Growth.{message_grown, good_of_grown}
 use Rattle.chord_model.proofs.Invariant.{IsOwn, CallerGood, AskGood, ToldGood, MessageGood, Good, Submitted}
 use Rattle.chord_caller.specs.declared.ask.Ask.{Ask}
@@ -73,11 +75,11 @@ number_pushed submitted last zero submission e = absurd (none-some submission e)
 number_pushed submitted last (suc place) submission e = ⊎_elim (λ there. inl there) (λ at. inr (omega arith)) (number_got submitted last place submission e)
 
 -- a pending call is above the floor
-pending_above : (caller : Caller) (place : ℕ) (submission : Submission) → submission_at place caller.submitted ≡ Some submission → is_taken caller place ≡ false
+pending_above : (caller : Caller) (place : ℕ) (submission : Submission) → submission_at place caller.submitted ≡ Some submission → is_settled caller place ≡ false
     → floor_of caller < place
 pending_above caller zero submission is pending = absurd (none-some submission is)
 pending_above caller (suc place) submission is pending =
-    ⊎_elim (λ above. above) (λ low. not_both (is_taken caller (suc place)) (floor_taken caller (suc place) (omega arith) low) pending) (cases_lt (floor_of caller) (suc place))
+    ⊎_elim (λ above. above) (λ low. not_both (is_settled caller (suc place)) (floor_settled caller (suc place) (omega arith) low) pending) (cases_lt (floor_of caller) (suc place))
 
 got_last : {A : Type 0} (xs : List A) (y : A) → slice_get (xs ++ y ∷ []) (length xs) ≡ Some y
 got_last [] y = refl
@@ -90,7 +92,7 @@ submission_last submitted last = rw add-one (got_last submitted last)
 pub record IsFresh (caller : Caller) (told : Told) (request : Request) : Type 0 where
   pub submission : Submission
   pub is_caller : told.caller ≡ caller.number
-  pub is_new : is_taken caller told.number ≡ false
+  pub is_new : is_settled caller told.number ≡ false
   pub is_submission : submission_at told.number caller.submitted ≡ Some submission
   pub is_request : submission.request ≡ request
   pub kind : fits told.reply submission.request ≡ true
@@ -106,16 +108,16 @@ fitting_parts reply (Some submission) request e =
 pub fresh_parts : (caller : Caller) (told : Told) (request : Request) → fresh_for told caller ≡ Some request → IsFresh caller told request
 unfolding fresh_for
 fresh_parts caller told request e =
-    let test : Bool = eqb told.caller caller.number && not (is_taken caller told.number) in
+    let test : Bool = eqb told.caller caller.number && not (is_settled caller told.number) in
     let found : Option Request = request_for_reply told.reply (submission_at told.number caller.submitted) in
     by_test test
     (λ t.
-    let tests = and_parts (eqb told.caller caller.number) (not (is_taken caller told.number)) t in
+    let tests = and_parts (eqb told.caller caller.number) (not (is_settled caller told.number)) t in
     let parts = fitting_parts told.reply (submission_at told.number caller.submitted) request (sym (cond-true test found None t) ∙ e) in
     record {
       submission = parts.0;
       is_caller = eqb-true told.caller caller.number tests.0;
-      is_new = not-true (is_taken caller told.number) tests.1;
+      is_new = not-true (is_settled caller told.number) tests.1;
       is_submission = parts.1;
       is_request = parts.2;
       kind = parts.3;
@@ -129,6 +131,32 @@ none_is (Some x) e = absurd (cc)
 pub not_taken_is : (caller : Caller) (place : ℕ) → is_taken caller place ≡ false → done_at caller.number place caller.mine ≡ None
 unfolding is_taken
 not_taken_is caller place e = none_is (done_at caller.number place caller.mine) e
+
+-- a number among others still is with one more
+pub among_with : (asked number : ℕ) (numbers : List ℕ) → is_among asked numbers ≡ true → is_among asked (with_number number numbers) ≡ true
+among_with asked number numbers e = among_more asked number numbers ∙ or_right (eqb number asked) (is_among asked numbers) e
+
+-- a number that was given up is not settled by a fresh reply
+unsettled_apart : (caller : Caller) (place : ℕ) → is_settled caller place ≡ false → is_among place caller.given_up ≡ false
+unfolding is_settled
+unsettled_apart caller place e = (or_parts (is_taken caller place) (is_among place caller.given_up) e).1
+
+apart_taken : (caller : Caller) (told : Told) (request : Request) → ((place : ℕ) → is_among place caller.given_up ≡ true → is_taken caller place ≡ false)
+    → is_settled caller told.number ≡ false → (place : ℕ) → is_among place caller.given_up ≡ true → is_taken (with_reply told request caller) place ≡ false
+apart_taken caller told request apart fresh place given =
+    let other : told.number ≢ place = λ same. true≢false (sym given ∙ ap (λ n. is_among n caller.given_up) (sym same) ∙ unsettled_apart caller told.number fresh) in
+    taken_after told request caller place
+    ∙ or_from (is_taken caller place) (eqb told.caller caller.number && eqb told.number place) (apart place given)
+    (and_right (eqb told.caller caller.number) (eqb told.number place) (ne_eqb told.number place other))
+
+-- nor is one that is given up taken
+apart_given : (caller : Caller) (given : ℕ) → ((place : ℕ) → is_among place caller.given_up ≡ true → is_taken caller place ≡ false)
+    → is_settled caller given ≡ false → (place : ℕ) → is_among place (with_number given caller.given_up) ≡ true → is_taken caller place ≡ false
+apart_given caller given apart pending place e =
+    ⊎_elim
+    (λ here. ap (is_taken caller) (sym (eqb-true given place here)) ∙ unsettled_untaken caller given pending)
+    (λ there. apart place there)
+    (or_cases (eqb given place) (is_among place caller.given_up) (sym (among_more place given caller.given_up) ∙ e))
 
 own_grown : (old new : Caller) → Grown old new → (done : Done) → IsOwn old done → IsOwn new done
 own_grown old new grown done own = record {
@@ -165,7 +193,7 @@ module _ (old : World) (good : Good old) (number : ℕ) (caller : Caller) (here 
         floor = λ below low high. record {
           caller = after;
           is_caller = ap (λ n. caller_at n (put_caller after old.callers)) sent.caller ∙ put;
-          taken = taken_grown caller after grown below (floor_taken caller below low (omega (arith, sent.floor)));
+          settled = settled_grown caller after grown below (floor_settled caller below low (omega (arith, sent.floor)));
         };
       }
 
@@ -174,7 +202,7 @@ module _ (old : World) (good : Good old) (number : ℕ) (caller : Caller) (here 
   submits request ask bound sent =
       let after : Caller = with_request request caller in
       let last : Submission = record { request = request; mine_seen = length caller.mine; told_seen = length caller.told } in
-      let grown : Grown caller after = record { number = refl; window = refl; submitted = (last ∷ [], refl); mine = nothing_more caller.mine; told = nothing_more caller.told } in
+      let grown : Grown caller after = record { number = refl; window = refl; submitted = (last ∷ [], refl); mine = nothing_more caller.mine; told = nothing_more caller.told; given_up = λ place given. given } in
       caller_event old good number caller after (Some (AskMessage ask)) here grown
       (record {
         own = λ done h. own_grown caller after grown done (before_good.own done h);
@@ -184,6 +212,7 @@ module _ (old : World) (good : Good old) (number : ℕ) (caller : Caller) (here 
         seen = λ place submission is. ⊎_elim (λ there. before_good.seen place submission there)
             (λ e. subst (λ (s : Submission). (s.mine_seen ≤ length caller.mine) × (s.told_seen ≤ length caller.told)) e (omega arith, omega arith))
             (submission_pushed caller.submitted last place submission is);
+        apart = λ place given. taken_same caller after refl refl place ∙ before_good.apart place given;
         window = before_good.window;
         near = λ place submission is. ⊎_elim (λ there. omega (arith, before_good.near place submission there, floor_grown caller after grown))
             (λ at. omega (arith, floor_grown caller after grown)) (number_pushed caller.submitted last place submission is);
@@ -207,7 +236,7 @@ module _ (old : World) (good : Good old) (number : ℕ) (caller : Caller) (here 
       let after : Caller = with_reply told request caller in
       let last : Done = record { caller = told.caller; number = told.number; request = request; reply = told.reply } in
       let parts : IsFresh caller told request = fresh_parts caller told request fresh in
-      let grown : Grown caller after = record { number = refl; window = refl; submitted = nothing_more caller.submitted; mine = (last ∷ [], refl); told = nothing_more caller.told } in
+      let grown : Grown caller after = record { number = refl; window = refl; submitted = nothing_more caller.submitted; mine = (last ∷ [], refl); told = nothing_more caller.told; given_up = λ place given. given } in
       let told_good : ToldGood old.history told = good.messages (ToldMessage told) was in
       let mine : Submitted old.callers told.caller told.number request = record {
         caller = caller;
@@ -221,7 +250,7 @@ module _ (old : World) (good : Good old) (number : ℕ) (caller : Caller) (here 
       let stands : StandsIn old.history last =
       subst (λ (r : Request). StandsIn old.history (record { caller = told.caller; number = told.number; request = r; reply = told.reply })) same told_good.stands in
       let new_one : done_at told.caller told.number caller.mine ≡ None =
-      ap (λ n. done_at n told.number caller.mine) parts.is_caller ∙ not_taken_is caller told.number parts.is_new in
+      ap (λ n. done_at n told.number caller.mine) parts.is_caller ∙ not_taken_is caller told.number (unsettled_untaken caller told.number parts.is_new) in
       let own : IsOwn after last = record { submission = parts.submission; is_caller = parts.is_caller; is_submission = parts.is_submission; is_request = parts.is_request } in
       caller_event old good number caller after None here grown
       (record {
@@ -232,6 +261,31 @@ module _ (old : World) (good : Good old) (number : ℕ) (caller : Caller) (here 
         seen = λ place submission is.
             let low = before_good.seen place submission is in
             (omega (arith, length-append caller.mine (last ∷ [])), low.1);
+        apart = apart_taken caller told request before_good.apart parts.is_new;
+        window = before_good.window;
+        near = λ place submission is. omega (arith, before_good.near place submission is, floor_grown caller after grown);
+      })
+      (λ message e. absurd (none-some message e))
+
+  gives_up : (given : ℕ) → is_settled caller given ≡ false → Good (record old { callers = put_caller (with_given_up given caller) old.callers; sent = with_one old.sent None })
+  gives_up given pending =
+      let after : Caller = with_given_up given caller in
+      let grown : Grown caller after = record {
+        number = refl;
+        window = refl;
+        submitted = nothing_more caller.submitted;
+        mine = nothing_more caller.mine;
+        told = nothing_more caller.told;
+        given_up = λ place e. among_with place given caller.given_up e;
+      } in
+      caller_event old good number caller after None here grown
+      (record {
+        own = λ done h. own_grown caller after grown done (before_good.own done h);
+        once = before_good.once;
+        mine_stand = before_good.mine_stand;
+        told_stand = before_good.told_stand;
+        seen = before_good.seen;
+        apart = λ place e. taken_same caller after refl refl place ∙ apart_given caller given before_good.apart pending place e;
         window = before_good.window;
         near = λ place submission is. omega (arith, before_good.near place submission is, floor_grown caller after grown);
       })
@@ -250,7 +304,7 @@ module _ (old : World) (good : Good old) (number : ℕ) (caller : Caller) (here 
       let more : List Done = unknown_calls caller note.done in
       let after : Caller = record caller { told = caller.told ++ more } in
       let note_good : Each (StandsIn old.history) note.done = good.messages (NoteMessage note) was in
-      let grown : Grown caller after = record { number = refl; window = refl; submitted = nothing_more caller.submitted; mine = nothing_more caller.mine; told = (more, refl) } in
+      let grown : Grown caller after = record { number = refl; window = refl; submitted = nothing_more caller.submitted; mine = nothing_more caller.mine; told = (more, refl); given_up = λ place given. given } in
       caller_event old good number caller after None here grown
       (record {
         own = λ done h. own_grown caller after grown done (before_good.own done h);
@@ -262,6 +316,7 @@ module _ (old : World) (good : Good old) (number : ℕ) (caller : Caller) (here 
         seen = λ place submission is.
             let low = before_good.seen place submission is in
             (low.0, omega (arith, length-append caller.told more));
+        apart = λ place given. taken_same caller after refl refl place ∙ before_good.apart place given;
         window = before_good.window;
         near = λ place submission is. omega (arith, before_good.near place submission is, floor_grown caller after grown);
       })
@@ -275,6 +330,7 @@ calls_keep old good number caller after taken sent here was (Submits request ask
 calls_keep old good number caller after taken sent here was (Repeats place submission ask is pending sends) = repeats old good number caller here place submission ask is sends
 calls_keep old good number caller after taken sent here was (Takes told request fresh) =
     takes old good number caller here told request (has_contained old.sent (ToldMessage told) was) fresh
+calls_keep old good number caller after taken sent here was (Gives_up place submission is pending) = gives_up old good number caller here place pending
 calls_keep old good number caller after taken sent here was (Ignores told none) = nothing_sent old good number caller here
 calls_keep old good number caller after taken sent here was (Hears_full other place) = nothing_sent old good number caller here
 calls_keep old good number caller after taken sent here was Shows = shows old good number caller here

@@ -10,7 +10,7 @@ use Rattle.chord_map.proofs.Lists.{by_test, Has}
 use Rattle.chord_map.proofs.MapLemmas.{has_filtered, has_put, by_same, by_other}
 use Rattle.chord_map.specs.declared.pair.Pair.{Pair}
 use Rattle.chord_map.specs.Map.{has_pair, key_of, put_all, reply_to, pairs_by, pairs_after}
-use Rattle.chord_model.proofs.Invariant.{TakenUpto, SegmentGood, Current}
+use Rattle.chord_model.proofs.Invariant.{SettledUpto, SegmentGood, Current}
 use Rattle.chord_map.proofs.HistoryLemmas.{replay_pushed, stands_pushed, stands_left, stands_last}
 use Rattle.chord_segment.proofs.SegmentLemmas.{above_has, above_is, above_or_below, inside_has, inside_back}
 use Rattle.chord_segment.proofs.Lifting.{mark_lifted, lift_grows, lift_all_grows, lift_all_reaches, lift_each, lift_all_each, placed_has, has_placed, placed_itself, placed_all_has, has_placed_all, placed_all_itself}
@@ -85,7 +85,7 @@ joined_good callers history first second one other =
     let floors : List Mark = lift_all second.floors first.floors in
     let all : List Done = insert_calls second.kept first.kept in
     record {
-      floors = lift_all_each (TakenUpto callers) second.floors first.floors other.floors one.floors;
+      floors = lift_all_each (SettledUpto callers) second.floors first.floors other.floors one.floors;
       kept = λ done h. ⊎_elim (λ a. one.kept done a) (λ b. other.kept done b) (placed_all_has second.kept first.kept done (above_has floors all done h));
       near = λ done h. record {
         above = above_is floors all done h;
@@ -213,7 +213,7 @@ appended_current history done floor segment pairs same current = record {
       (stands_pushed history done past stands);
 }
 
-pub appended_good : (callers : List Caller) (history : List Done) (done : Done) (floor : ℕ) (segment : Segment) → TakenUpto callers done.caller floor
+pub appended_good : (callers : List Caller) (history : List Done) (done : Done) (floor : ℕ) (segment : Segment) → SettledUpto callers done.caller floor
     → done.number ≤ floor + 16 → done_at done.caller done.number history ≡ None → SegmentGood callers history segment
     → SegmentGood callers (history ++ done ∷ []) (append done floor segment)
 unfolding append
@@ -223,7 +223,7 @@ appended_good callers history done floor segment taken near fresh good =
     let raised : mark_of done.caller floors ≡ max (mark_of done.caller segment.floors) floor = mark_lifted done.caller floor segment.floors in
     let is_near : done.number ≤ mark_of done.caller floors + 16 = omega arith in
     record {
-      floors = lift_each (TakenUpto callers) done.caller floor segment.floors taken good.floors;
+      floors = lift_each (SettledUpto callers) done.caller floor segment.floors taken good.floors;
       kept = λ past h.
           ⊎_elim (λ there. stands_left history (done ∷ []) past (good.kept past there)) (λ e. subst (StandsIn (history ++ done ∷ [])) e (stands_last history done fresh))
           (placed_has done segment.kept past (above_has floors all past h));

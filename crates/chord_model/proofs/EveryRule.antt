@@ -1,9 +1,10 @@
--- A run that uses every rule: one handover is taken, one is declined, and calls are executed.
+-- A run that uses every rule: one handover is taken, one is declined, calls are executed, and one
+-- that a full store refused is given up.
 use Rattle.std.proofs.Common.{◌≡◌, ℕ, cond, ⊎_elim, Option, Some, None, List, [], ◌∷◌, ◌++◌, refl, ◌∙◌, ap, subst, arith, Contains}
 use Rattle.std.specs.Prelude.{slice_get}
 use Rattle.chord_caller.specs.declared.ask.Ask.{Ask}
 use Rattle.chord_caller.specs.declared.told.Told.{Told}
-use Rattle.chord_caller.specs.Caller.{Caller, Letter, Note, is_taken, floor_upto, with_request, with_reply, fresh_for, known_calls, unknown_calls, CallerStep}
+use Rattle.chord_caller.specs.Caller.{Caller, Letter, Note, is_taken, is_settled, floor_upto, with_request, with_reply, with_given_up, fresh_for, known_calls, unknown_calls, CallerStep}
 use Rattle.chord_caller.specs.Caller.Letter.{AskLetter, ToldLetter, FullLetter, NoteLetter}
 use Rattle.chord_handover.specs.Handover.{Handover, Part, Item, part_at, IsWhole, ticket_of, item_at, outbox_without, handover_of}
 use Rattle.chord_ident.specs.declared.id.Id.{Id}
@@ -118,7 +119,7 @@ abbrev get : Request
 get = Retrieve key
 
 abbrev caller : Caller
-caller = record { number = 7; window = 2; submitted = []; mine = []; told = [] }
+caller = record { number = 7; window = 2; submitted = []; mine = []; told = []; given_up = [] }
 
 abbrev ask_put : Ask
 ask_put = record { caller = 7; number = 1; floor = 0; request = put; hops = 255; above = omega arith; near = omega arith }
@@ -127,7 +128,7 @@ abbrev ask_more : Ask
 ask_more = record { caller = 7; number = 2; floor = 1; request = put_more; hops = 255; above = omega arith; near = omega arith }
 
 abbrev ask_get : Ask
-ask_get = record { caller = 7; number = 3; floor = 1; request = get; hops = 255; above = omega arith; near = omega arith }
+ask_get = record { caller = 7; number = 3; floor = 2; request = get; hops = 255; above = omega arith; near = omega arith }
 
 abbrev done_put : Done
 done_put = done_of ask_put (reply_to put holding.entries)
@@ -153,8 +154,11 @@ heard = with_reply told_put put submitted
 abbrev submitted_more : Caller
 submitted_more = with_request put_more heard
 
+abbrev gave_up : Caller
+gave_up = with_given_up 2 submitted_more
+
 abbrev submitted_get : Caller
-submitted_get = with_request get submitted_more
+submitted_get = with_request get gave_up
 
 abbrev note : Note
 note = record { caller = 7; done = known_calls submitted_get }
@@ -168,7 +172,7 @@ abbrev with_put : Segment
 with_put = append done_put 0 whole
 
 abbrev with_get : Segment
-with_get = append done_get 1 with_put
+with_get = append done_get 2 with_put
 
 -- a segment of the whole circle has each key
 pub holds_key : (key : List ℕ) (segment : Segment) (held : List Segment) → held ≡ segment ∷ [] → segment.span ≡ whole.span → segment_with (key_id key) held ≡ Some segment
@@ -195,7 +199,7 @@ held_put : after_put.held ≡ with_put ∷ []
 held_put = appends key done_put 0 whole holding.held refl refl
 
 held_get : after_get.held ≡ with_get ∷ []
-held_get = appends key done_get 1 with_put after_put.held held_put span_put
+held_get = appends key done_get 2 with_put after_put.held held_put span_put
 
 -- ---- the worlds, one after another
 
@@ -283,8 +287,11 @@ full = acted after_put (Some (FullMessage 7 2)) None repeated
 abbrev heard_full : World
 heard_full = called submitted_more None full
 
+abbrev gave_up_more : World
+gave_up_more = called gave_up None heard_full
+
 abbrev asked_get : World
-asked_get = called submitted_get (Some (AskLetter ask_get)) heard_full
+asked_get = called submitted_get (Some (AskLetter ask_get)) gave_up_more
 
 abbrev did_get : World
 did_get = acted after_get (Some (ToldMessage (told_of ask_get (reply_to get after_put.entries)))) (Some done_get) asked_get
@@ -421,15 +428,15 @@ tells_again = (
 )
 
 hears : Used (Rule.ByCaller CallerRule.Takes) told_again heard_put
-unfolding caller_at put_caller fresh_for is_taken done_at reply_to put_all pairs_inside pairs_outside
+unfolding caller_at put_caller fresh_for is_settled is_taken done_at reply_to put_all pairs_inside pairs_outside
 hears = (WorldStep.Calls 7 submitted heard (Some (ToldLetter told_put)) None refl (8, omega arith, refl) (CallerStep.Takes told_put put refl), refl)
 
 ignores : Used (Rule.ByCaller CallerRule.Ignores) heard_put ignored
-unfolding caller_at put_caller fresh_for is_taken done_at
+unfolding caller_at put_caller fresh_for is_settled is_taken done_at
 ignores = (WorldStep.Calls 7 heard heard (Some (ToldLetter told_put)) None refl (8, omega arith, refl) (CallerStep.Ignores told_put refl), refl)
 
 submits_more : Used (Rule.ByCaller CallerRule.Submits) ignored asked_more
-unfolding caller_at put_caller floor_upto is_taken done_at
+unfolding caller_at put_caller floor_upto is_settled is_taken done_at
 submits_more = (
   WorldStep.Calls 7 heard submitted_more None (Some (AskLetter ask_more)) refl tt
       (CallerStep.Submits put_more ask_more (omega arith) (record { caller = refl; number = refl; floor = refl; request = refl; hops = refl })),
@@ -437,7 +444,7 @@ submits_more = (
 )
 
 repeats : Used (Rule.ByCaller CallerRule.Repeats) asked_more repeated
-unfolding caller_at put_caller floor_upto is_taken done_at
+unfolding caller_at put_caller floor_upto is_settled is_taken done_at
 repeats = (
   WorldStep.Calls 7 submitted_more submitted_more None (Some (AskLetter ask_more)) refl tt
       (CallerStep.Repeats 2 (record { request = put_more; mine_seen = 1; told_seen = 0 }) ask_more refl refl
@@ -457,10 +464,17 @@ hears_full : Used (Rule.ByCaller CallerRule.Hears_full) full heard_full
 unfolding caller_at put_caller
 hears_full = (WorldStep.Calls 7 submitted_more submitted_more (Some (FullLetter 7 2)) None refl (12, omega arith, refl) (CallerStep.Hears_full 7 2), refl)
 
-submits_get : Used (Rule.ByCaller CallerRule.Submits) heard_full asked_get
-unfolding caller_at put_caller floor_upto is_taken done_at
+gives_up : Used (Rule.ByCaller CallerRule.Gives_up) heard_full gave_up_more
+unfolding caller_at put_caller is_settled is_taken done_at
+gives_up = (
+  WorldStep.Calls 7 submitted_more gave_up None None refl tt (CallerStep.Gives_up 2 (record { request = put_more; mine_seen = 1; told_seen = 0 }) refl refl),
+  refl,
+)
+
+submits_get : Used (Rule.ByCaller CallerRule.Submits) gave_up_more asked_get
+unfolding caller_at put_caller floor_upto is_settled is_taken done_at
 submits_get = (
-  WorldStep.Calls 7 submitted_more submitted_get None (Some (AskLetter ask_get)) refl tt
+  WorldStep.Calls 7 gave_up submitted_get None (Some (AskLetter ask_get)) refl tt
       (CallerStep.Submits get ask_get (omega arith) (record { caller = refl; number = refl; floor = refl; request = refl; hops = refl })),
   refl,
 )
@@ -513,49 +527,50 @@ abbrev run : Reached last
 run =
     Goes_on (Goes_on (Goes_on (Goes_on (Goes_on (Goes_on (Goes_on (Goes_on (Goes_on (Goes_on (Goes_on (Goes_on
     (Goes_on (Goes_on (Goes_on (Goes_on (Goes_on (Goes_on (Goes_on (Goes_on (Goes_on (Goes_on (Goes_on (Goes_on
-    (Goes_on (Goes_on (Goes_on (Goes_on (Goes_on (Goes_on (Goes_on (Goes_on (Goes_on (Goes_on (Goes_on
+    (Goes_on (Goes_on (Goes_on (Goes_on (Goes_on (Goes_on (Goes_on (Goes_on (Goes_on (Goes_on (Goes_on (Goes_on
     Stays
     creates.0) joins.0) opens.0) submits.0) forwards.0) drops.0) links_change.0) gives.0) gives_again.0) waits.0) notes.0)
     takes.0) takes_again.0) frees.0) leaves.0) retires.0) gives_late.0) declines.0) takes_back.0) keeps.0) executes.0) tells_again.0)
-    hears.0) ignores.0) submits_more.0) repeats.0) answers_full.0) hears_full.0) submits_get.0) executes_get.0) drops_seen.0)
+    hears.0) ignores.0) submits_more.0) repeats.0) answers_full.0) hears_full.0) gives_up.0) submits_get.0) executes_get.0) drops_seen.0)
     shows.0) meets.0) cuts_one.0) joins_two.0
 
 by_caller : (rule : CallerRule) → Contains (rules_of run) (Rule.ByCaller rule)
-by_caller CallerRule.Submits = (31, omega arith, submits.1)
-by_caller CallerRule.Repeats = (9, omega arith, repeats.1)
-by_caller CallerRule.Takes = (12, omega arith, hears.1)
-by_caller CallerRule.Ignores = (11, omega arith, ignores.1)
-by_caller CallerRule.Hears_full = (7, omega arith, hears_full.1)
+by_caller CallerRule.Submits = (32, omega arith, submits.1)
+by_caller CallerRule.Repeats = (10, omega arith, repeats.1)
+by_caller CallerRule.Takes = (13, omega arith, hears.1)
+by_caller CallerRule.Gives_up = (7, omega arith, gives_up.1)
+by_caller CallerRule.Ignores = (12, omega arith, ignores.1)
+by_caller CallerRule.Hears_full = (8, omega arith, hears_full.1)
 by_caller CallerRule.Shows = (3, omega arith, shows.1)
 by_caller CallerRule.Meets = (2, omega arith, meets.1)
 
 by_node : (rule : NodeRule) → Contains (rules_of run) (Rule.ByNode rule)
-by_node NodeRule.Tells_again = (13, omega arith, tells_again.1)
+by_node NodeRule.Tells_again = (14, omega arith, tells_again.1)
 by_node NodeRule.Drops_seen = (4, omega arith, drops_seen.1)
-by_node NodeRule.Executes = (14, omega arith, executes.1)
-by_node NodeRule.Answers_full = (8, omega arith, answers_full.1)
-by_node NodeRule.Forwards = (30, omega arith, forwards.1)
-by_node NodeRule.Drops = (29, omega arith, drops.1)
-by_node NodeRule.Got_again = (22, omega arith, takes_again.1)
-by_node NodeRule.Declines = (17, omega arith, declines.1)
-by_node NodeRule.Buffers = (24, omega arith, notes.1)
-by_node NodeRule.Takes = (23, omega arith, takes.1)
-by_node NodeRule.Waits = (25, omega arith, waits.1)
-by_node NodeRule.Frees = (21, omega arith, frees.1)
-by_node NodeRule.Takes_back = (16, omega arith, takes_back.1)
-by_node NodeRule.Keeps = (15, omega arith, keeps.1)
+by_node NodeRule.Executes = (15, omega arith, executes.1)
+by_node NodeRule.Answers_full = (9, omega arith, answers_full.1)
+by_node NodeRule.Forwards = (31, omega arith, forwards.1)
+by_node NodeRule.Drops = (30, omega arith, drops.1)
+by_node NodeRule.Got_again = (23, omega arith, takes_again.1)
+by_node NodeRule.Declines = (18, omega arith, declines.1)
+by_node NodeRule.Buffers = (25, omega arith, notes.1)
+by_node NodeRule.Takes = (24, omega arith, takes.1)
+by_node NodeRule.Waits = (26, omega arith, waits.1)
+by_node NodeRule.Frees = (22, omega arith, frees.1)
+by_node NodeRule.Takes_back = (17, omega arith, takes_back.1)
+by_node NodeRule.Keeps = (16, omega arith, keeps.1)
 by_node NodeRule.Cuts = (1, omega arith, cuts_one.1)
 by_node NodeRule.Joins = (0, omega arith, joins_two.1)
-by_node NodeRule.Gives = (27, omega arith, gives.1)
-by_node NodeRule.Gives_again = (26, omega arith, gives_again.1)
-by_node NodeRule.Links_change = (28, omega arith, links_change.1)
-by_node NodeRule.Leaves = (20, omega arith, leaves.1)
-by_node NodeRule.Retires = (19, omega arith, retires.1)
+by_node NodeRule.Gives = (28, omega arith, gives.1)
+by_node NodeRule.Gives_again = (27, omega arith, gives_again.1)
+by_node NodeRule.Links_change = (29, omega arith, links_change.1)
+by_node NodeRule.Leaves = (21, omega arith, leaves.1)
+by_node NodeRule.Retires = (20, omega arith, retires.1)
 
 every : (rule : Rule) → Contains (rules_of run) rule
-every Rule.Creates = (34, omega arith, creates.1)
-every Rule.Joins = (33, omega arith, joins.1)
-every Rule.Opens = (32, omega arith, opens.1)
+every Rule.Creates = (35, omega arith, creates.1)
+every Rule.Joins = (34, omega arith, joins.1)
+every Rule.Opens = (33, omega arith, opens.1)
 every (Rule.ByCaller rule) = by_caller rule
 every (Rule.ByNode rule) = by_node rule
 

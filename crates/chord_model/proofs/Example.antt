@@ -2,7 +2,7 @@
 use Rattle.std.proofs.Common.{◌≡◌, ◌≢◌, Some, None, [], ◌∷◌, refl, arith, Contains}
 use Rattle.chord_caller.specs.declared.ask.Ask.{Ask}
 use Rattle.chord_caller.specs.declared.told.Told.{Told}
-use Rattle.chord_caller.specs.Caller.{Caller, is_taken, floor_upto, with_request, with_reply, fresh_for, CallerStep}
+use Rattle.chord_caller.specs.Caller.{Caller, is_taken, is_settled, floor_upto, with_request, with_reply, fresh_for, CallerStep}
 use Rattle.chord_ident.specs.declared.id.Id.{Id}
 use Rattle.chord_ident.specs.Circle.{key_id}
 use Rattle.chord_ident.proofs.Spans.{whole_circle}
@@ -30,7 +30,7 @@ unfolding segment_with
 held_here = rw (whole_circle five (key_id (1 ∷ [])) (omega arith) (key_id-below (1 ∷ []))) refl
 
 abbrev caller : Caller
-caller = record { number = 7; window = 1; submitted = []; mine = []; told = [] }
+caller = record { number = 7; window = 1; submitted = []; mine = []; told = []; given_up = [] }
 
 abbrev asked : Ask
 asked = record { caller = 7; number = 1; floor = 0; request = Insert (1 ∷ []) (2 ∷ []); hops = 255; above = omega arith; near = omega arith }
@@ -77,7 +77,7 @@ fifth : WorldStep
       sent = AskMessage asked ∷ ToldMessage told ∷ [];
       history = done_of asked (reply_to (Insert (1 ∷ []) (2 ∷ [])) []) ∷ [];
     })
-unfolding caller_at put_caller fresh_for is_taken done_at reply_to
+unfolding caller_at put_caller fresh_for is_settled is_taken done_at reply_to
 fifth = WorldStep.Calls 7 submitted (with_reply told (Insert (1 ∷ []) (2 ∷ [])) submitted) (Some (ToldLetter told)) None
     refl (1, omega arith, refl) (CallerStep.Takes told (Insert (1 ∷ []) (2 ∷ [])) refl)
 

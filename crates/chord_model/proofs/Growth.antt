@@ -5,7 +5,7 @@ use Rattle.std.proofs.lemmas.Option.{same_Some}
 use Rattle.chord_caller.specs.declared.ask.Ask.{Ask}
 use Rattle.chord_caller.specs.Caller.{Submission, Caller, submission_at, seen_at}
 use Rattle.chord_map.proofs.Lists.{by_test, Has, Each, has_cases, has_taken, has_right}
-use Rattle.chord_model.proofs.CallerLemmas.{AllGrown, submitted_grown, taken_upto_grown, submission_grown, seen_grown}
+use Rattle.chord_model.proofs.CallerLemmas.{AllGrown, submitted_grown, settled_upto_grown, submission_grown, seen_grown}
 use Rattle.chord_model.proofs.Invariant.{CallerGood, SegmentGood, AskGood, MessageGood, DoneGood, NodeGood, Good}
 use Rattle.chord_model.specs.declared.message.Message.{Message}
 use Rattle.chord_model.specs.declared.message.Message.TheVariants.{Ask as AskMessage, Told as ToldMessage, Full as FullMessage, Part as PartMessage, Got as GotMessage, Declined as DeclinedMessage, Note as NoteMessage}
@@ -23,7 +23,7 @@ HistoryGrown old new = (done : Done) → StandsIn old done → StandsIn new done
 module _ (callers more_callers : List Caller) (history more_history : List Done) (grown : AllGrown callers more_callers) (longer : HistoryGrown history more_history) where
   pub segment_grown : (segment : Segment) → SegmentGood callers history segment → SegmentGood more_callers more_history segment
   segment_grown segment good = record {
-    floors = λ mark h. taken_upto_grown callers more_callers grown mark.owner mark.number (good.floors mark h);
+    floors = λ mark h. settled_upto_grown callers more_callers grown mark.owner mark.number (good.floors mark h);
     kept = λ done h. longer done (good.kept done h);
     near = good.near;
   }
@@ -31,7 +31,7 @@ module _ (callers more_callers : List Caller) (history more_history : List Done)
   pub ask_grown : (ask : Ask) → AskGood callers ask → AskGood more_callers ask
   ask_grown ask good = record {
     submitted = submitted_grown callers more_callers grown ask.caller ask.number ask.request good.submitted;
-    floor = taken_upto_grown callers more_callers grown ask.caller ask.floor good.floor;
+    floor = settled_upto_grown callers more_callers grown ask.caller ask.floor good.floor;
   }
 
   pub message_grown : (message : Message) → MessageGood callers history message → MessageGood more_callers more_history message
@@ -61,6 +61,7 @@ module _ (callers more_callers : List Caller) (history more_history : List Done)
     mine_stand = λ done h. longer done (good.mine_stand done h);
     told_stand = λ done h. longer done (good.told_stand done h);
     seen = good.seen;
+    apart = good.apart;
     window = good.window;
     near = good.near;
   }

@@ -4,7 +4,7 @@ use Rattle.std.proofs.lemmas.Bool.{and_from, eq-eqb, cond-true, cases_Bool, not_
 use Rattle.std.proofs.lemmas.Option.{none-some, same_Some}
 use Rattle.chord_ident.proofs.Digest.{key_id-below}
 use Rattle.chord_caller.specs.declared.told.Told.{Told}
-use Rattle.chord_caller.specs.Caller.{Caller, Submission, submission_at, is_taken, request_for_reply, fresh_for}
+use Rattle.chord_caller.specs.Caller.{Caller, Submission, submission_at, is_settled, request_for_reply, fresh_for}
 use Rattle.chord_ident.specs.Circle.{in_span}
 use Rattle.chord_map.proofs.Lists.{Has, all_each, has_contained, by_option, has_got}
 use Rattle.chord_map.proofs.MapLemmas.{RisingPairs, pair_of, values_same}
@@ -12,10 +12,10 @@ use Rattle.chord_map.specs.declared.pair.Pair.{Pair}
 use Rattle.chord_map.specs.Map.{fits, key_of}
 use Rattle.chord_model.proofs.Clash.{placed_reached}
 use Rattle.chord_model.proofs.HolderTie.{every_has, holder_facts}
-use Rattle.chord_model.proofs.Invariant.{HasTaken, TakenUpto, SegmentGood, ToldGood, NodeGood, Current, Good, HolderFacts, CallerGood}
+use Rattle.chord_model.proofs.Invariant.{HasSettled, SettledUpto, SegmentGood, ToldGood, NodeGood, Current, Good, HolderFacts, CallerGood}
 use Rattle.chord_model.proofs.Main.{reached_good}
 use Rattle.chord_model.proofs.Placed.{KeptInside}
-use Rattle.chord_model.specs.Headline.{Holds, Appears, OneHistory, KeepNoneTwice, request_with, submitted_by, was_taken, answers}
+use Rattle.chord_model.specs.Headline.{Holds, Appears, OneHistory, KeepNoneTwice, request_with, submitted_by, was_settled, answers}
 use Rattle.chord_model.specs.Headline.Appears.{Held, Kept_for, Sent}
 use Rattle.chord_model.specs.Headline.Holds.{ByNode, ByHandover}
 use Rattle.chord_model.specs.declared.message.Message.TheVariants.{Note as NoteMessage, Told as ToldMessage, Part as PartMessage}
@@ -29,20 +29,20 @@ use Rattle.chord_map.specs.History.{replay, StandsIn, done_at}
 use Rattle.chord_segment.specs.Segment.{id_of, Segment}
 use Rattle.chord_model.proofs.Numbered.{callers_by, nodes_by}
 
--- a fitting reply that is not fresh was taken before
+-- the call of a fitting reply that is not fresh was settled before
 fresh_none : (caller : Caller) (told : Told) (submission : Submission) → told.caller ≡ caller.number → submission_at told.number caller.submitted ≡ Some submission
-    → fits told.reply submission.request ≡ true → fresh_for told caller ≡ None → is_taken caller told.number ≡ true
+    → fits told.reply submission.request ≡ true → fresh_for told caller ≡ None → is_settled caller told.number ≡ true
 unfolding fresh_for
 fresh_none caller told submission own is kind none =
     ⊎_elim (λ t. t)
     (λ f.
-    let test : (eqb told.caller caller.number && not (is_taken caller told.number)) ≡ true =
-    and_from (eqb told.caller caller.number) (not (is_taken caller told.number)) (eq-eqb told.caller caller.number own) (not_from_false (is_taken caller told.number) f) in
+    let test : (eqb told.caller caller.number && not (is_settled caller told.number)) ≡ true =
+    and_from (eqb told.caller caller.number) (not (is_settled caller told.number)) (eq-eqb told.caller caller.number own) (not_from_false (is_settled caller told.number) f) in
     let fit : request_for_reply told.reply (submission_at told.number caller.submitted) ≡ Some submission.request =
     ap (request_for_reply told.reply) is ∙ cond-true (fits told.reply submission.request) (Some submission.request) None kind in
     absurd (none-some submission.request
-    (sym none ∙ cond-true (eqb told.caller caller.number && not (is_taken caller told.number)) (request_for_reply told.reply (submission_at told.number caller.submitted)) None test ∙ fit)))
-    (cases_Bool (is_taken caller told.number))
+    (sym none ∙ cond-true (eqb told.caller caller.number && not (is_settled caller told.number)) (request_for_reply told.reply (submission_at told.number caller.submitted)) None test ∙ fit)))
+    (cases_Bool (is_settled caller told.number))
 
 module _ (world : World) (good : Good world) where
   node_good : (number : ℕ) (node : Node) → node_at number world.nodes ≡ Some node → NodeGood world.callers world.history node
@@ -80,7 +80,7 @@ module _ (world : World) (good : Good world) where
       ap (answers told.reply) (made _ told_good.stands) ∙ (good.executed _ told_good.stands).kind
 
   stale : (told : Told) (caller : Caller) → Contains world.sent (ToldMessage told) → caller_at told.caller world.callers ≡ Some caller
-      → fresh_for told caller ≡ None → is_taken caller told.number ≡ true
+      → fresh_for told caller ≡ None → is_settled caller told.number ≡ true
   stale told caller was here none =
       let told_good : ToldGood world.history told = good.messages (ToldMessage told) (has_contained world.sent (ToldMessage told) was) in
       let done_good = good.executed _ told_good.stands in
@@ -99,6 +99,7 @@ module _ (world : World) (good : Good world) where
         (λ done h. ((good_one.own done h).is_caller ∙ callers_by.number number world.callers caller here, good_one.mine_stand done h));
     noted = λ note was. all_each (StandsIn world.history) note.done (good.messages (NoteMessage note) (has_contained world.sent (NoteMessage note) was));
     told = λ number caller here. all_each (StandsIn world.history) caller.told (good.callers caller (callers_by.has number world.callers caller here)).told_stand;
+    given_up = λ number caller place here given. (good.callers caller (callers_by.has number world.callers caller here)).apart place given;
     once = λ number caller here. (good.callers caller (callers_by.has number world.callers caller here)).once;
     in_order = good.in_order;
     owed = owed;
@@ -113,9 +114,9 @@ module _ (world : World) (good : Good world) where
     near = λ segment appears. all_each (λ (done : Done). (mark_of done.caller segment.floors < done.number) × (done.number ≤ mark_of done.caller segment.floors + 16)) segment.kept
         (λ done h. let n = (appears_good segment appears).near done h in (n.above, n.near));
     floors = λ segment number place appears low high.
-        let t : HasTaken world.callers number place =
-        mark_each (TakenUpto world.callers) number segment.floors (λ other above below. absurd (omega arith)) (appears_good segment appears).floors place low high in
-        ap (λ o. was_taken o place) t.is_caller ∙ t.taken;
+        let t : HasSettled world.callers number place =
+        mark_each (SettledUpto world.callers) number segment.floors (λ other above below. absurd (omega arith)) (appears_good segment appears).floors place low high in
+        ap (λ o. was_settled o place) t.is_caller ∙ t.settled;
   }
 
 -- the headline, if no reachable world holds an identifier twice

@@ -1,8 +1,8 @@
 -- What holds in every reachable world of callers, messages, the history and the segments.
-use Rattle.std.specs.Prelude.{◌≡◌, ◌≢◌, ℕ, ◌+◌, ◌^◌, ◌≤◌, ◌<◌, true, ◌⊎◌, Some, List, [], length, slice_get}
+use Rattle.std.specs.Prelude.{◌≡◌, ◌≢◌, ℕ, ◌+◌, ◌^◌, ◌≤◌, ◌<◌, true, false, ◌⊎◌, Some, List, [], length, slice_get}
 use Rattle.chord_caller.specs.declared.ask.Ask.{Ask}
 use Rattle.chord_caller.specs.declared.told.Told.{Told}
-use Rattle.chord_caller.specs.Caller.{Submission, Caller, submission_at, is_taken, floor_of}
+use Rattle.chord_caller.specs.Caller.{Submission, Caller, submission_at, is_taken, is_among, is_settled, floor_of}
 use Rattle.chord_handover.specs.declared.ticket.Ticket.{Ticket}
 use Rattle.chord_handover.specs.Handover.{Handover, Part, IsWhole, gathered_parts, Item, item_at}
 use Rattle.chord_ident.specs.Circle.{in_span, key_id}
@@ -32,15 +32,15 @@ pub record Submitted (callers : List Caller) (number place : ℕ) (request : Req
   pub is_submission : submission_at place caller.submitted ≡ Some submission
   pub is_request : submission.request ≡ request
 
--- the caller took the reply to its call of this number
-pub record HasTaken (callers : List Caller) (number place : ℕ) : Type 0 where
+-- the caller settled its call of this number
+pub record HasSettled (callers : List Caller) (number place : ℕ) : Type 0 where
   pub caller : Caller
   pub is_caller : caller_at number callers ≡ Some caller
-  pub taken : is_taken caller place ≡ true
+  pub settled : is_settled caller place ≡ true
 
--- it took the replies to all its calls up to this number
-abbrev pub TakenUpto : List Caller → ℕ → ℕ → Type 0
-TakenUpto callers number floor = (place : ℕ) → 1 ≤ place → place ≤ floor → HasTaken callers number place
+-- it settled all its calls up to this number
+abbrev pub SettledUpto : List Caller → ℕ → ℕ → Type 0
+SettledUpto callers number floor = (place : ℕ) → 1 ≤ place → place ≤ floor → HasSettled callers number place
 
 -- a call that the caller took is its own, with the request that it submitted
 pub record IsOwn (caller : Caller) (done : Done) : Type 0 where
@@ -56,18 +56,19 @@ pub record CallerGood (history : List Done) (caller : Caller) : Type 0 where
   pub told_stand : Each (StandsIn history) caller.told
   pub seen : (place : ℕ) (submission : Submission) → submission_at place caller.submitted ≡ Some submission
       → (submission.mine_seen ≤ length caller.mine) × (submission.told_seen ≤ length caller.told)
+  pub apart : (place : ℕ) → is_among place caller.given_up ≡ true → is_taken caller place ≡ false
   pub window : caller.window ≤ 16
   pub near : (place : ℕ) (submission : Submission) → submission_at place caller.submitted ≡ Some submission → place ≤ floor_of caller + caller.window
 
--- of a segment, wherever it is: its floors were taken, and its kept calls were executed
+-- of a segment, wherever it is: what is below its floors was settled, and its kept calls were executed
 pub record SegmentGood (callers : List Caller) (history : List Done) (segment : Segment) : Type 0 where
-  pub floors : EachMark (TakenUpto callers) segment.floors
+  pub floors : EachMark (SettledUpto callers) segment.floors
   pub kept : Each (StandsIn history) segment.kept
   pub near : Each (IsNear segment.floors) segment.kept
 
 pub record AskGood (callers : List Caller) (ask : Ask) : Type 0 where
   pub submitted : Submitted callers ask.caller ask.number ask.request
-  pub floor : TakenUpto callers ask.caller ask.floor
+  pub floor : SettledUpto callers ask.caller ask.floor
 
 -- a reply that was sent is the one in the history
 pub record ToldGood (history : List Done) (told : Told) : Type 0 where

@@ -2,7 +2,7 @@
 use Rattle.std.proofs.lemmas.List.Elements.{Contains-append_left}
 use Rattle.std.proofs.Common.{◌≡◌, ◌≢◌, ℕ, ◌+◌, ◌^◌, ◌<◌, false, Option, Some, None, List, [], ◌∷◌, ◌++◌, ◌⊎◌, inl, inr, ⊎_elim, refl, sym, ◌∙◌, ap, subst, arith, Contains}
 use Rattle.chord_caller.specs.Caller.{Caller, CallerStep, Letter}
-use Rattle.chord_caller.specs.Caller.CallerStep.{Submits, Repeats, Takes as Hears, Ignores, Hears_full, Shows, Meets}
+use Rattle.chord_caller.specs.Caller.CallerStep.{Submits, Repeats, Takes as Hears, Gives_up, Ignores, Hears_full, Shows, Meets}
 use Rattle.chord_handover.proofs.Counting.{count}
 use Rattle.chord_handover.proofs.OutboxLemmas.{DistinctItems, item_at_is}
 use Rattle.chord_handover.specs.Handover.{Part, part_at, ticket_of_part, item_at, handover_of}
@@ -257,6 +257,7 @@ caller_says : (nodes : List Node) (caller : Caller) (taken : Option Letter) (aft
 caller_says nodes caller taken after out (Submits request ask room sends) = saying nodes _ tt
 caller_says nodes caller taken after out (Repeats number submission ask found pending sends) = saying nodes _ tt
 caller_says nodes caller taken after out (Hears told request fresh) = silent nodes
+caller_says nodes caller taken after out (Gives_up number submission found pending) = silent nodes
 caller_says nodes caller taken after out (Ignores told stale) = silent nodes
 caller_says nodes caller taken after out (Hears_full of number) = silent nodes
 caller_says nodes caller taken after out Shows = saying nodes _ tt

@@ -153,21 +153,22 @@ joins old good links limit =
       unbegun = λ e. absurd (not_empty old.nodes new_one e);
     }
 
-blank_good : (history : List Done) (number window : ℕ) → window ≤ 16 → CallerGood history (record { number = number; window = window; submitted = []; mine = []; told = [] })
+blank_good : (history : List Done) (number window : ℕ) → window ≤ 16 → CallerGood history (record { number = number; window = window; submitted = []; mine = []; told = []; given_up = [] })
 blank_good history number window high = record {
   own = λ done h. absurd h;
   once = tt;
   mine_stand = λ done h. absurd h;
   told_stand = λ done h. absurd h;
   seen = λ place submission e. absurd (none_submitted place submission e);
+  apart = λ place e. absurd (cc);
   window = high;
   near = λ place submission e. absurd (none_submitted place submission e);
 }
 
 opens : (old : World) (good : Good old) (number window : ℕ) → window ≤ 16
-    → Good (record old { callers = old.callers ++ record { number = number; window = window; submitted = []; mine = []; told = [] } ∷ [] })
+    → Good (record old { callers = old.callers ++ record { number = number; window = window; submitted = []; mine = []; told = []; given_up = [] } ∷ [] })
 opens old good number window high =
-    let blank : Caller = record { number = number; window = window; submitted = []; mine = []; told = [] } in
+    let blank : Caller = record { number = number; window = window; submitted = []; mine = []; told = []; given_up = [] } in
     let all = all_grown_pushed old.callers blank in
     good_of_grown old good (old.callers ++ blank ∷ []) old.sent all
     (λ caller h. ⊎_elim (λ there. good.callers caller there) (λ e. subst (CallerGood old.history) e (blank_good old.history number window high)) (has_pushed old.callers blank caller h))

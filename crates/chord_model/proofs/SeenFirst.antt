@@ -5,7 +5,7 @@ use Rattle.std.proofs.lemmas.Option.{same_Some, none-some, slice_get_within}
 use Rattle.chord_caller.specs.Caller.{Submission, Caller, submission_at, known_calls, seen_at, CallerStep, Letter}
 use Rattle.chord_map.proofs.Lists.{Has, has_cases, has_contained, has_left, has_right, each_all}
 use Rattle.chord_model.proofs.CallerLemmas.{Grown, nothing_more, grown_itself, caller_left}
-use Rattle.chord_model.proofs.CallerSteps.{submission_pushed}
+use Rattle.chord_model.proofs.CallerSteps.{submission_pushed, among_with}
 use Rattle.chord_model.proofs.Growth.{once_stands}
 use Rattle.chord_model.proofs.HolderTie.{holder_facts}
 use Rattle.chord_model.proofs.Invariant.{Good}
@@ -26,6 +26,7 @@ grown_twice first second third one other = record {
   );
   mine = ((one.mine).0 ++ (other.mine).0, (other.mine).1 ∙ ap (λ xs. xs ++ (other.mine).0) (one.mine).1 ∙ append_assoc first.mine (one.mine).0 (other.mine).0);
   told = ((one.told).0 ++ (other.told).0, (other.told).1 ∙ ap (λ xs. xs ++ (other.told).0) (one.told).1 ∙ append_assoc first.told (one.told).0 (other.told).0);
+  given_up = λ place given. other.given_up place (one.given_up place given);
 }
 
 -- each submission is an old one, or counts all that its caller knew
@@ -39,21 +40,32 @@ notes_itself caller place submission is = inl is
 -- one step of a caller
 step_grows : (old new : Caller) (taken sent : Option Letter) → CallerStep old taken new sent → Grown old new × NotesAll old new
 step_grows old new taken sent (CallerStep.Submits request ask bound sends) = (
-  record { number = refl; window = refl; submitted = (_, refl); mine = nothing_more old.mine; told = nothing_more old.told },
+  record { number = refl; window = refl; submitted = (_, refl); mine = nothing_more old.mine; told = nothing_more old.told; given_up = λ place given. given },
   (λ place submission is. ⊎_elim (λ there. inl there)
       (λ e. inr (ap (λ (s : Submission). s.mine_seen) (sym e), ap (λ (s : Submission). s.told_seen) (sym e)))
       (submission_pushed old.submitted (record { request = request; mine_seen = length old.mine; told_seen = length old.told }) place submission is)),
 )
 step_grows old new taken sent (CallerStep.Repeats place submission ask is pending sends) = (grown_itself old, notes_itself old)
 step_grows old new taken sent (CallerStep.Takes told request fresh) = (
-  record { number = refl; window = refl; submitted = nothing_more old.submitted; mine = (_, refl); told = nothing_more old.told },
+  record { number = refl; window = refl; submitted = nothing_more old.submitted; mine = (_, refl); told = nothing_more old.told; given_up = λ place given. given },
+  (λ place submission is. inl is),
+)
+step_grows old new taken sent (CallerStep.Gives_up given submission is pending) = (
+  record {
+    number = refl;
+    window = refl;
+    submitted = nothing_more old.submitted;
+    mine = nothing_more old.mine;
+    told = nothing_more old.told;
+    given_up = λ place e. among_with place given old.given_up e;
+  },
   (λ place submission is. inl is),
 )
 step_grows old new taken sent (CallerStep.Ignores told none) = (grown_itself old, notes_itself old)
 step_grows old new taken sent (CallerStep.Hears_full caller place) = (grown_itself old, notes_itself old)
 step_grows old new taken sent CallerStep.Shows = (grown_itself old, notes_itself old)
 step_grows old new taken sent (CallerStep.Meets note) = (
-  record { number = refl; window = refl; submitted = nothing_more old.submitted; mine = nothing_more old.mine; told = (_, refl) },
+  record { number = refl; window = refl; submitted = nothing_more old.submitted; mine = nothing_more old.mine; told = (_, refl); given_up = λ place given. given },
   (λ place submission is. inl is),
 )
 
@@ -94,7 +106,7 @@ world_since middle last number old since (WorldStep.Joins links limit id_in some
 world_since middle last number old since (WorldStep.Opens at window low high is_new) =
     record {
       new = since.new;
-      is_caller = caller_left number middle.callers (record { number = at; window = window; submitted = []; mine = []; told = [] } ∷ []) since.new since.is_caller;
+      is_caller = caller_left number middle.callers (record { number = at; window = window; submitted = []; mine = []; told = []; given_up = [] } ∷ []) since.new since.is_caller;
       grown = since.grown;
       notes = since.notes;
     }

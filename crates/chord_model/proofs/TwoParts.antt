@@ -53,7 +53,7 @@ done n = done_of (ask n) (reply_to (put n) (entries_of n))
 
 -- a new caller, and that caller after its request
 abbrev caller : ℕ → Caller
-caller n = record { number = n; window = 1; submitted = []; mine = []; told = [] }
+caller n = record { number = n; window = 1; submitted = []; mine = []; told = []; given_up = [] }
 
 abbrev asking : ℕ → Caller
 asking n = with_request (put n) (caller n)

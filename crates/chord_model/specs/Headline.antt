@@ -1,7 +1,7 @@
 -- Statement 15 of 15: the headline, that is what holds of every reachable world.
 use Rattle.std.specs.Prelude.{◌≡◌, ◌≢◌, ℕ, ◌+◌, ◌<◌, ◌≤◌, Bool, true, Option, None, Some, List, [], ◌∷◌, ◌++◌, length, slice_get, Contains, All, ◌^◌, false}
 use Rattle.chord_caller.specs.declared.told.Told.{Told}
-use Rattle.chord_caller.specs.Caller.{Caller, Note, Submission, submission_at, is_taken, fresh_for, known_calls}
+use Rattle.chord_caller.specs.Caller.{Caller, Note, Submission, submission_at, is_taken, is_among, is_settled, fresh_for, known_calls}
 use Rattle.chord_handover.specs.Handover.{Part, Item}
 use Rattle.chord_ident.specs.declared.span.Span.{Span}
 use Rattle.chord_ident.specs.Circle.{in_span, key_id}
@@ -41,10 +41,10 @@ abbrev pub submitted_by : Option Caller → ℕ → Option Request
 submitted_by None number = None
 submitted_by (Some caller) number = request_with (submission_at number caller.submitted)
 
--- whether a caller took the reply to its call of this number
-abbrev pub was_taken : Option Caller → ℕ → Bool
-was_taken None number = Bool.false
-was_taken (Some caller) number = is_taken caller number
+-- whether a caller settled its call of this number: it took the reply, or gave the call up
+abbrev pub was_settled : Option Caller → ℕ → Bool
+was_settled None number = Bool.false
+was_settled (Some caller) number = is_settled caller number
 
 -- whether the request exists and the reply is of its kind
 abbrev pub answers : Reply → Option Request → Bool
@@ -63,14 +63,18 @@ pub record OneHistory (world : World) : Type 0 where
       → All (λ done. (done.caller ≡ number) × StandsIn world.history done) caller.mine
   pub once : (number : ℕ) (caller : Caller) → caller_at number world.callers ≡ Some caller → EachOnce caller.mine
   pub told : (number : ℕ) (caller : Caller) → caller_at number world.callers ≡ Some caller → All (StandsIn world.history) caller.told
+  -- no reply to a call that its caller gave up was taken
+  pub given_up : (number : ℕ) (caller : Caller) (place : ℕ) → caller_at number world.callers ≡ Some caller → is_among place caller.given_up ≡ true
+      → is_taken caller place ≡ false
   -- each call in a note is in the history
   pub noted : (note : Note) → Contains world.sent (NoteMessage note) → All (StandsIn world.history) note.done
   -- each request comes in the history after all that its caller had seen
   pub in_order : InOrder world
-  -- No reply is foreign: it answers a submitted request; and its caller takes it, or took it before
+  -- No reply is foreign: it answers a submitted request; and its caller takes it, or settled the
+  -- request before
   pub owed : (told : Told) → Contains world.sent (ToldMessage told) → answers told.reply (submitted_by (caller_at told.caller world.callers) told.number) ≡ true
   pub stale : (told : Told) (caller : Caller) → Contains world.sent (ToldMessage told) → caller_at told.caller world.callers ≡ Some caller
-      → fresh_for told caller ≡ None → is_taken caller told.number ≡ true
+      → fresh_for told caller ≡ None → is_settled caller told.number ≡ true
   -- the holder's values under a key are those of the replayed history
   pub values : (segment : Segment) (pairs : List Pair) (key : List ℕ) → Holds world.nodes segment pairs → in_span segment.span (key_id key) ≡ true
       → values_at key pairs ≡ values_at key (replay [] world.history)
@@ -83,9 +87,9 @@ pub record OneHistory (world : World) : Type 0 where
   -- each kept call is above its caller's floor, by at most 16
   pub near : (segment : Segment) → Appears world segment
       → All (λ done. (mark_of done.caller segment.floors < done.number) × (done.number ≤ mark_of done.caller segment.floors + 16)) segment.kept
-  -- the replies to all numbers at or below a floor were taken
+  -- the calls of all numbers at or below a floor were settled by their caller
   pub floors : (segment : Segment) (number place : ℕ) → Appears world segment → 1 ≤ place → place ≤ mark_of number segment.floors
-      → was_taken (caller_at number world.callers) place ≡ true
+      → was_settled (caller_at number world.callers) place ≡ true
 
 -- no call is kept in two of the segments
 abbrev pub KeepNoneTwice : List Segment → Type 0

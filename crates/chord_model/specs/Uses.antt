@@ -36,6 +36,7 @@ pub data CallerRule : Type 0 where
   Submits : CallerRule
   Repeats : CallerRule
   Takes : CallerRule
+  Gives_up : CallerRule
   Ignores : CallerRule
   Hears_full : CallerRule
   Shows : CallerRule
@@ -76,6 +77,7 @@ abbrev pub caller_rule : {old new : Caller} {taken sent : Option Letter} → Cal
 caller_rule (CallerStep.Submits request ask room sends) = CallerRule.Submits
 caller_rule (CallerStep.Repeats number submission ask found pending sends) = CallerRule.Repeats
 caller_rule (CallerStep.Takes told request fresh) = CallerRule.Takes
+caller_rule (CallerStep.Gives_up number submission found pending) = CallerRule.Gives_up
 caller_rule (CallerStep.Ignores told stale) = CallerRule.Ignores
 caller_rule (CallerStep.Hears_full caller number) = CallerRule.Hears_full
 caller_rule CallerStep.Shows = CallerRule.Shows

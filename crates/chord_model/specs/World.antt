@@ -69,7 +69,7 @@ pub data WorldStep (old : World) : World → Type 0 where
       → WorldStep old (record old { nodes = old.nodes ++ newborn links limit ∷ [] })
   -- a caller with a new number is opened
   Opens : (number window : ℕ) → 1 ≤ window → window ≤ 16 → caller_at number old.callers ≡ None
-      → WorldStep old (record old { callers = old.callers ++ record { number = number; window = window; submitted = []; mine = []; told = [] } ∷ [] })
+      → WorldStep old (record old { callers = old.callers ++ record { number = number; window = window; submitted = []; mine = []; told = []; given_up = [] } ∷ [] })
   -- a caller takes a step
   Calls : (number : ℕ) (caller after : Caller) (taken sent : Option Letter) → caller_at number old.callers ≡ Some caller
       → WasSent old.sent (letter_sent taken) → CallerStep caller taken after sent

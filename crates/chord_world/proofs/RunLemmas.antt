@@ -11,7 +11,7 @@ use Rattle.chord_world.specs.declared.refusal.Refusal.{Refusal}
 use Rattle.chord_world.specs.declared.runs.StepResult.{StepResult}
 use Rattle.chord_world.specs.declared.runs.StepResult.TheVariants.{Did, Refused}
 use Rattle.chord_world.specs.declared.step.Step.{Step}
-use Rattle.chord_world.specs.declared.step.Step.TheVariants.{Create, Join, OpenCaller, Submit, Resend, Deliver, Show, Meet, Cut, Merge, Give, SendPart, Leave, Retire, Stabilise, Candidate, DropDead, Rectify, Crash, Finger}
+use Rattle.chord_world.specs.declared.step.Step.TheVariants.{Create, Join, OpenCaller, Submit, Resend, GiveUp, Deliver, Show, Meet, Cut, Merge, Give, SendPart, Leave, Retire, Stabilise, Candidate, DropDead, Rectify, Crash, Finger}
 use Rattle.chord_world.specs.State.{WorldState}
 use Rattle.chord_world.specs.Steps.{StepIs, Advances, AdvancesBy, CreateLeaves, StoresLeft}
 use Rattle.chord_world.specs.Runs.{Ran, result_of, limits_left}
@@ -38,6 +38,8 @@ limits_by f (Deliver message) (Did outcome) stores left e = ap (map f) e
 limits_by f (Deliver message) (Refused refusal) stores left e = ap (map f) e
 limits_by f (Resend caller via number) (Did outcome) stores left e = ap (map f) e
 limits_by f (Resend caller via number) (Refused refusal) stores left e = ap (map f) e
+limits_by f (GiveUp caller number) (Did outcome) stores left e = ap (map f) e
+limits_by f (GiveUp caller number) (Refused refusal) stores left e = ap (map f) e
 limits_by f (Show caller) (Did outcome) stores left e = ap (map f) e
 limits_by f (Show caller) (Refused refusal) stores left e = ap (map f) e
 limits_by f (Meet caller message) (Did outcome) stores left e = ap (map f) e
@@ -83,6 +85,7 @@ run_more first middle last (Join id behind) result run step = run_by first middl
 run_more first middle last (OpenCaller window) result run step = run_by first middle last result run step
 run_more first middle last (Submit caller via request) result run step = run_by first middle last result run step
 run_more first middle last (Resend caller via number) result run step = run_by first middle last result run step
+run_more first middle last (GiveUp caller number) result run step = run_by first middle last result run step
 run_more first middle last (Deliver message) result run step = run_by first middle last result run step
 run_more first middle last (Show caller) result run step = run_by first middle last result run step
 run_more first middle last (Meet caller message) result run step = run_by first middle last result run step
@@ -113,6 +116,7 @@ vacant_after P (OpenCaller window) result stores left e all = subst (All P) (sym
 vacant_after P (Submit caller via request) result stores left e all = subst (All P) (sym e) all
 vacant_after P (Deliver message) result stores left e all = subst (All P) (sym e) all
 vacant_after P (Resend caller via number) result stores left e all = subst (All P) (sym e) all
+vacant_after P (GiveUp caller number) result stores left e all = subst (All P) (sym e) all
 vacant_after P (Show caller) result stores left e all = subst (All P) (sym e) all
 vacant_after P (Meet caller message) result stores left e all = subst (All P) (sym e) all
 vacant_after P (Cut node place at) result stores left e all = subst (All P) (sym e) all

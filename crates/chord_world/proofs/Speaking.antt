@@ -1,16 +1,16 @@
--- Callers that send a request again, send a note or meet one.
-use Rattle.std.proofs.Common.{◌≡◌, ℕ, ◌<◌, Option, None, Some, Result, Ok, Err, List, [], ◌∷◌, ◌++◌, length, set, get_or, refl, sym, ◌∙◌, ap, subst, arith}
+-- Callers that send a request again or give one up, send a note or meet one.
+use Rattle.std.proofs.Common.{◌≡◌, ℕ, ◌<◌, Option, None, Some, Result, Ok, Err, List, [], ◌∷◌, ◌++◌, length, true, set, get_or, refl, sym, ◌∙◌, ap, subst, arith}
 use Rattle.std.specs.Prelude.{slice_get, slice_set, Contains, OnOk, OnErr, IsErrAnd}
 use Rattle.std.specs.declared.alloc.AllocError.{AllocError}
-use Rattle.std.proofs.lemmas.Option.{slice_get_within}
+use Rattle.std.proofs.lemmas.Option.{slice_get_within, same_Some}
 use Rattle.std.proofs.lemmas.List.{length-set}
 use Rattle.chord_caller.specs.declared.ask.Ask.{Ask}
-use Rattle.chord_caller.specs.Caller.{Note, Caller, CallerStep, Letter, unknown_calls}
+use Rattle.chord_caller.specs.Caller.{Note, Caller, CallerStep, Letter, unknown_calls, with_given_up}
 use Rattle.chord_caller.specs.Caller.Letter.{AskLetter, NoteLetter}
 use Rattle.chord_caller.specs.Caller.CallerStep.{Meets}
 use Rattle.chord_caller.specs.declared.fault.ResendFault.TheVariants.{Idle}
-use Rattle.chord_caller.specs.Answers.{ResendIs}
-use Rattle.chord_caller.proofs.Steps.{resend_steps}
+use Rattle.chord_caller.specs.Answers.{ResendIs, is_pending}
+use Rattle.chord_caller.proofs.Steps.{resend_steps, give_up_steps}
 use Rattle.chord_model.specs.Letters.{message_of}
 use Rattle.chord_model.specs.declared.message.Message.{Message}
 use Rattle.chord_model.specs.declared.message.Message.TheVariants.{Ask as AskMessage, Note as NoteMessage}
@@ -21,7 +21,7 @@ use Rattle.chord_world.specs.declared.refusal.Refusal.{Refusal}
 use Rattle.chord_world.specs.declared.refusal.Refusal.TheVariants as refused
 use Rattle.chord_world.specs.State.{WorldState, CallersFrom, IsKnown, AreKnown, IsAimed, IsWorld, IsThere, with_heard, with_sent}
 use Rattle.chord_world.specs.Calling.CannotAskAgain.{Is_idle, No_memory}
-use Rattle.chord_world.specs.Calling.{CallerIs, WantedIs, IsIdle, IsWaiting, AsksAgain, CannotAskAgain, AgainIs, SendsAgain, ResendStepIs, note_of, SendsNote, with_note, MeetsNote, MeetIs, SentIs, Met, MeetsAt}
+use Rattle.chord_world.specs.Calling.{CallerIs, WantedIs, IsIdle, IsWaiting, AsksAgain, CannotAskAgain, AgainIs, SendsAgain, ResendStepIs, GivesUp, MayGiveUp, CanGiveUp, GaveUp, note_of, SendsNote, with_note, MeetsNote, MeetIs, SentIs, Met, MeetsAt}
 use Rattle.chord_world.specs.Calling.IsIdle.{Not_pending}
 use Rattle.chord_world.proofs.Placing.{callers_by, calls_pushed, aimed_pushed}
 use Rattle.chord_world.proofs.Keeping.{further}
@@ -204,3 +204,53 @@ meets_not caller message view old note callers (Ok outcome) same there sent stay
 meets_not caller message view old note callers (Err e) same there sent stays is =
     subst (λ r. MeetIs caller message old (Err r) (posted callers view.world.sent view.targets view)) (sym is)
     ((there, (note, sent)), ap (λ cs. posted cs view.world.sent view.targets view) stays ∙ same)
+
+-- ---- a request that is given up
+
+-- the caller that is read at the index has it pending
+pub pending_at : (place number : ℕ) (callers : List Caller) (core : Caller) → place < length callers → core ≡ get_or callers place core → CanGiveUp place number callers → is_pending number core ≡ true
+pending_at place number callers core within e can =
+    let same : can.core ≡ core = same_Some can.core core (sym can.here ∙ got callers place core within e) in
+    ap (is_pending number) (sym same) ∙ can.pending
+
+pub gave_up_from : (place number : ℕ) (old : List Caller) (core after : Caller) → place < length old → core ≡ get_or old place core → CanGiveUp place number old → after ≡ with_given_up number core
+    → GaveUp place number old (slice_set old place after)
+gave_up_from place number old core after within e can is =
+    record {
+      can = record { core = core; here = got old place core within e; pending = pending_at place number old core within e can };
+      new_is = ap (λ (c : Caller). set old place c) is;
+    }
+
+pub can_give_up : (caller number : ℕ) (view old : WorldState) → view ≡ old → IsWorld view → MayGiveUp caller number old (Ok tt) → CanGiveUp caller number view.world.callers
+can_give_up caller number view old same kept may = record {
+  core = may.0;
+  here = caller_index caller view old may.0 same kept may.1;
+  pending = may.2;
+}
+
+pub gave_up_step : (place number : ℕ) (view : WorldState) → IsWorld view → (can : CanGiveUp place number view.world.callers)
+    → WorldStep view.world (with_heard (with_given_up number can.core) view).world
+gave_up_step place number view kept can =
+    Calls place can.core (with_given_up number can.core) None None (callers_by.found 0 place place view.world.callers kept.callers (omega arith) ∙ can.here) tt
+    (give_up_steps number can.core (with_given_up number can.core) can.pending refl)
+
+-- restated in the terms of the code
+pub gave_up_is : (place number : ℕ) (view : WorldState) (callers : List Caller) → IsWorld view → (gone : GaveUp place number view.world.callers callers)
+    → posted callers view.world.sent view.targets view ≡ with_heard (with_given_up number (gone.can).core) view
+gave_up_is place number view callers kept gone =
+    let core = (gone.can).core in
+    let at = callers_by.number 0 place core view.world.callers kept.callers (gone.can).here in
+    let put : callers ≡ put_caller (with_given_up number core) view.world.callers =
+    gone.new_is ∙ sym (callers_by.put_is 0 place (with_given_up number core) view.world.callers kept.callers at) in
+    λ i. posted (put i) view.world.sent view.targets view
+
+pub gives_up_after : (caller number : ℕ) (view old : WorldState) (callers : List Caller) → view ≡ old → IsWorld view → GaveUp caller number view.world.callers callers
+    → GivesUp caller number old (posted callers view.world.sent view.targets view)
+gives_up_after caller number view old callers same kept gone =
+    subst (λ w. GivesUp caller number w (posted callers view.world.sent view.targets view)) same
+    (record {
+      core = (gone.can).core;
+      here = caller_stands caller view view (gone.can).core refl kept (gone.can).here;
+      pending = (gone.can).pending;
+      new_is = gave_up_is caller number view callers kept gone;
+    })

@@ -1,8 +1,8 @@
--- What a World answers to a request sent again, and to a note sent or met.
+-- What a World answers to a request sent again or given up, and to a note sent or met.
 use Rattle.std.specs.Prelude.{◌≡◌, ◌≢◌, ℕ, ◌<◌, ◌≤◌, true, false, Option, None, Some, Result, Ok, Err, List, [], ◌∷◌, ◌++◌, length, slice_get, slice_set}
 use Rattle.std.specs.declared.alloc.AllocError.{AllocError}
 use Rattle.chord_caller.specs.declared.ask.Ask.{Ask}
-use Rattle.chord_caller.specs.Caller.{Note, Caller, known_calls, unknown_calls}
+use Rattle.chord_caller.specs.Caller.{Note, Caller, known_calls, unknown_calls, with_given_up}
 use Rattle.chord_caller.specs.Answers.{is_pending, PendingIs, ResendIs}
 use Rattle.chord_model.specs.declared.message.Message.{Message}
 use Rattle.chord_model.specs.declared.message.Message.TheVariants.{Ask as AskMessage, Note as NoteMessage}
@@ -84,6 +84,27 @@ RefusesResend caller via named old refusal = AreThere caller via old (Err refusa
 abbrev pub ResendStepIs : ℕ → ℕ → Option ℕ → WorldState → Result Outcome Refusal → WorldState → Type 0
 ResendStepIs caller via named = DoneOrRefused (DoesResend caller via named) (RefusesResend caller via named)
 
+-- ---- a request given up
+
+-- the caller gave its pending request of this number up
+pub record GivesUp (caller number : ℕ) (old new : WorldState) : Type 0 where
+  pub core : Caller
+  pub here : caller_at caller old.world.callers ≡ Some core
+  pub pending : is_pending number core ≡ true
+  pub new_is : new ≡ with_heard (with_given_up number core) old
+
+abbrev pub DoesGiveUp : ℕ → ℕ → WorldState → Outcome → WorldState → Type 0
+DoesGiveUp caller number old did.Done new = GivesUp caller number old new
+DoesGiveUp caller number old outcome new = ⊥
+
+abbrev pub RefusesGiveUp : ℕ → ℕ → WorldState → Refusal → Type 0
+RefusesGiveUp caller number old (refused.Step step_fault.Idle) =
+    (old.world.nodes ≢ []) × ((core : Caller) × (caller_at caller old.world.callers ≡ Some core) × (is_pending number core ≡ false))
+RefusesGiveUp caller number old refusal = CallerIs caller old (Err refusal)
+
+abbrev pub GiveUpIs : ℕ → ℕ → WorldState → Result Outcome Refusal → WorldState → Type 0
+GiveUpIs caller number = DoneOrRefused (DoesGiveUp caller number) (RefusesGiveUp caller number)
+
 -- ---- a note
 
 -- the note of what a caller knows
@@ -138,6 +159,22 @@ abbrev pub MeetIs : ℕ → ℕ → WorldState → Result Outcome Refusal → Wo
 MeetIs caller message = DoneOrRefused (DoesMeet caller message) (RefusesMeet caller message)
 
 -- ---- how it happens
+
+-- the caller exists and its request of this number is pending, or the step is refused so
+abbrev pub MayGiveUp : ℕ → ℕ → WorldState → Result (Unit {0}) Refusal → Type 0
+MayGiveUp caller number state (Ok may) = (core : Caller) × (caller_at caller state.world.callers ≡ Some core) × (is_pending number core ≡ true)
+MayGiveUp caller number state (Err refusal) = RefusesGiveUp caller number state refusal
+
+-- the request of this number of the caller at this index is pending
+pub record CanGiveUp (place number : ℕ) (callers : List Caller) : Type 0 where
+  pub core : Caller
+  pub here : slice_get callers place ≡ Some core
+  pub pending : is_pending number core ≡ true
+
+-- the caller at this index gave its request up; the list has the caller afterwards
+pub record GaveUp (place number : ℕ) (old new : List Caller) : Type 0 where
+  pub can : CanGiveUp place number old
+  pub new_is : new ≡ slice_set old place (with_given_up number can.core)
 
 -- one more message was sent, or memory ran out and nothing changed
 abbrev pub SentIs : Message → Option ℕ → List Message → List (Option ℕ) → Result ℕ AllocError → List Message → List (Option ℕ) → Type 0

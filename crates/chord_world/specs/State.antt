@@ -92,7 +92,7 @@ pub record IsWorld (state : WorldState) : Type 0 where
 abbrev pub IsThere : ℕ → ℕ → WorldState → Caller → Type 0
 IsThere caller via state core = (via < length state.world.nodes) × (caller_at caller state.world.callers ≡ Some core)
 
--- the world after a caller took in a message
+-- the world after a caller changed
 abbrev pub with_heard : Caller → WorldState → WorldState
 with_heard after old = record old { world = record old.world { callers = put_caller after old.world.callers } }
 

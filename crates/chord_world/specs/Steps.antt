@@ -18,10 +18,10 @@ use Rattle.chord_world.specs.declared.refusal.Refusal.{Refusal}
 use Rattle.chord_world.specs.declared.refusal.Refusal.TheVariants as refused
 use Rattle.chord_world.specs.declared.refusal.StepFault.TheVariants as step_fault
 use Rattle.chord_world.specs.declared.step.Step.{Step}
-use Rattle.chord_world.specs.declared.step.Step.TheVariants.{Create, Join, OpenCaller, Submit, Resend, Deliver, Show, Meet, Cut, Merge, Give, SendPart, Leave, Retire, Stabilise, Candidate, DropDead, Rectify, Crash, Finger}
+use Rattle.chord_world.specs.declared.step.Step.TheVariants.{Create, Join, OpenCaller, Submit, Resend, GiveUp, Deliver, Show, Meet, Cut, Merge, Give, SendPart, Leave, Retire, Stabilise, Candidate, DropDead, Rectify, Crash, Finger}
 use Rattle.chord_world.specs.Refusals.{refusal_of, DoneOrRefused}
 use Rattle.chord_world.specs.State.{WorldState, IsThere}
-use Rattle.chord_world.specs.Calling.{AreThere, DoesResend, RefusesResend, DoesShow, RefusesShow, DoesMeet, RefusesMeet}
+use Rattle.chord_world.specs.Calling.{AreThere, DoesResend, RefusesResend, DoesGiveUp, RefusesGiveUp, DoesShow, RefusesShow, DoesMeet, RefusesMeet}
 use Rattle.chord_world.specs.Linking.{DoesFinger, RefusesFinger}
 use Rattle.chord_world.specs.Joining.{DoesJoin, RefusesJoin}
 use Rattle.chord_world.specs.Upkeep.{DoesUpkeep, RefusesUpkeep, DoesCrash, RefusesCrash}
@@ -138,6 +138,7 @@ Does (Join id behind) limits old outcome new = DoesJoin id behind limits old out
 Does (OpenCaller window) limits old outcome new = DoesOpen window old outcome new
 Does (Submit caller via request) limits old outcome new = DoesSubmit caller via request old outcome new
 Does (Resend caller via number) limits old outcome new = DoesResend caller via number old outcome new
+Does (GiveUp caller number) limits old outcome new = DoesGiveUp caller number old outcome new
 Does (Deliver message) limits old outcome new = Delivers message old outcome new
 Does (Show caller) limits old outcome new = DoesShow caller old outcome new
 Does (Meet caller message) limits old outcome new = DoesMeet caller message old outcome new
@@ -161,6 +162,7 @@ Refuses (Join id behind) limits old refusal = RefusesJoin id behind limits old r
 Refuses (OpenCaller window) limits old refusal = RefusesOpen window old refusal
 Refuses (Submit caller via request) limits old refusal = RefusesSubmit caller via request old refusal
 Refuses (Resend caller via number) limits old refusal = RefusesResend caller via number old refusal
+Refuses (GiveUp caller number) limits old refusal = RefusesGiveUp caller number old refusal
 Refuses (Deliver message) limits old refusal = RefusesDeliver message old refusal
 Refuses (Show caller) limits old refusal = RefusesShow caller old refusal
 Refuses (Meet caller message) limits old refusal = RefusesMeet caller message old refusal

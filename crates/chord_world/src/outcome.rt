@@ -19,7 +19,7 @@ pub enum Outcome {
     Full(u64),
     /// This caller took a reply: the last of its taken calls.
     Fresh(u64),
-    /// The caller had taken the reply before.
+    /// The caller had taken the reply before, or given the request up.
     Known,
     /// A caller heard that a store was full.
     HeardFull,

@@ -32,6 +32,11 @@ pub enum Step {
         via: u64,
         number: Option<u64>,
     },
+    /// The caller gives its pending request of this number up: it settles it without a reply.
+    GiveUp {
+        caller: u64,
+        number: u64,
+    },
     /// The message that was sent under this number is delivered to its node or caller.
     Deliver {
         message: u64,

@@ -6,6 +6,7 @@ mod create;
 mod deliver;
 mod finger;
 mod give;
+mod give_up;
 mod hold;
 mod join;
 mod note;

@@ -155,6 +155,7 @@ impl<S: EntryStore> World<S> {
                 via,
                 number,
             } => self.resend(*caller, *via, *number),
+            Step::GiveUp { caller, number } => self.give_up(*caller, *number),
             Step::Deliver { message } => self.deliver(*message),
             Step::Show { caller } => self.show(*caller),
             Step::Meet { caller, message } => self.meet(*caller, *message),

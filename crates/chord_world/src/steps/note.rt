@@ -24,7 +24,7 @@ fn meet_at(callers: &mut Vec<CallerCore>, place: usize, note: &Note) -> Result<(
 
 impl<S: EntryStore> World<S> {
     /// Whether a node was created and the caller exists.
-    fn is_caller(&self, caller: u64) -> Result<(), Refusal>
+    pub(crate) fn is_caller(&self, caller: u64) -> Result<(), Refusal>
         ensures { CallerIs caller self.now result }
     {
         if self.nodes.is_empty() {

@@ -6,6 +6,7 @@ use crate::console::rows::{Row, THREE, first_wrong};
 use crate::console::worlds::{over_two, sixty_five_values};
 use crate::console::{DONE, Ran};
 use std::alloc::Global;
+use std::process::Abort;
 use std::test::Fail;
 
 /// Two stores with room for any number of pairs.
@@ -97,6 +98,77 @@ const FULL: &[Row] = &[
     ("retrieve 1 0 61", "message 10"),
     ("deliver 10", "told 11"),
     ("deliver 11", "fresh values 1 79"),
+    ("history", "history 4"),
+];
+
+/// A call is given up, and the next one is asked at once. The one given up comes late and acts,
+/// once, and comes again below its caller's floor.
+const GIVEN_UP: &[Row] = &[
+    ("giveup 0 1", "refused 2 NotCreated"),
+    ("create 40000000000000000000000000000000", "node 0"),
+    ("giveup 0 1", "refused 4 NoSuchCaller"),
+    ("caller", "caller 0"),
+    ("insert 0 0 61 78", "message 0"),
+    ("retrieve 0 0 61", "refused 9 WindowFull"),
+    ("giveup 0 2", "refused 9 Idle"),
+    ("giveup 0 1", "ok"),
+    ("giveup 0 1", "refused 9 Idle"),
+    ("resend 0 0", "refused 9 Idle"),
+    ("retrieve 0 0 61", "message 1"),
+    ("deliver 0", "told 2"),
+    ("deliver 2", "known"),
+    ("deliver 0", "told 3"),
+    ("deliver 1", "told 4"),
+    ("deliver 4", "fresh values 1 78"),
+    ("deliver 3", "known"),
+    ("deliver 0", "dropped"),
+    ("history", "history 2"),
+];
+
+/// A call that a full store refused is given up. It comes again when there is room, behind the next
+/// one of its caller, and never acts.
+const GIVEN_UP_FULL: &[Row] = &[
+    ("create 40000000000000000000000000000000", "node 0"),
+    ("caller", "caller 0"),
+    ("caller", "caller 1"),
+    ("insert 0 0 61 78", "message 0"),
+    ("deliver 0", "told 1"),
+    ("deliver 1", "fresh added"),
+    ("insert 1 0 61 79", "message 2"),
+    ("deliver 2", "full 3"),
+    ("giveup 1 1", "ok"),
+    ("deliver 3", "full"),
+    ("retrieve 1 0 61", "message 4"),
+    ("deliver 4", "told 5"),
+    ("deliver 5", "fresh values 1 78"),
+    ("remove 0 0 61 78", "message 6"),
+    ("deliver 6", "told 7"),
+    ("deliver 7", "fresh removed"),
+    ("deliver 2", "dropped"),
+    ("history", "history 3"),
+];
+
+/// A call that a full store refused was sent twice, and is given up. The second message of it comes
+/// when there is room, and acts.
+const GIVEN_UP_TWICE: &[Row] = &[
+    ("create 40000000000000000000000000000000", "node 0"),
+    ("caller", "caller 0"),
+    ("caller", "caller 1"),
+    ("insert 0 0 61 78", "message 0"),
+    ("deliver 0", "told 1"),
+    ("deliver 1", "fresh added"),
+    ("insert 1 0 61 79", "message 2"),
+    ("resend 1 0", "message 3"),
+    ("deliver 2", "full 4"),
+    ("giveup 1 1", "ok"),
+    ("remove 0 0 61 78", "message 5"),
+    ("deliver 5", "told 6"),
+    ("deliver 6", "fresh removed"),
+    ("deliver 3", "told 7"),
+    ("deliver 7", "known"),
+    ("retrieve 0 0 61", "message 8"),
+    ("deliver 8", "told 9"),
+    ("deliver 9", "fresh values 1 79"),
     ("history", "history 4"),
 ];
 
@@ -292,13 +364,30 @@ const SCRIPTS: &[(&[u64], &[Row])] = &[
     (THREE, CRASHED),
 ];
 
-#[test]
-fn messages_are_disturbed(rt: HostRuntime) -> Result<(), Fail> {
-    for (limits, rows) in SCRIPTS {
-        let wrong = first_wrong(rt.alloc(), limits, rows)?;
+/// Requests that their callers give up.
+const GIVEN_UP_SCRIPTS: &[(&[u64], &[Row])] = &[
+    (ROOMY, GIVEN_UP),
+    (&[1], GIVEN_UP_FULL),
+    (&[1], GIVEN_UP_TWICE),
+];
+
+/// Runs each script, and checks each line that it writes.
+fn run_all<R: Abort>(rt: &R, alloc: Global, scripts: &[(&[u64], &[Row])]) -> Result<(), Fail> {
+    for (limits, rows) in scripts {
+        let wrong = first_wrong(alloc, limits, rows)?;
         assert!(rt; wrong.is_none(), "{wrong:?}");
     }
     Ok(())
+}
+
+#[test]
+fn messages_are_disturbed(rt: HostRuntime) -> Result<(), Fail> {
+    run_all(&rt, rt.alloc(), SCRIPTS)
+}
+
+#[test]
+fn requests_are_given_up(rt: HostRuntime) -> Result<(), Fail> {
+    run_all(&rt, rt.alloc(), GIVEN_UP_SCRIPTS)
 }
 
 /// The second of two parts comes first, twice, and once more after the handover was taken.

@@ -1,8 +1,8 @@
 use Rattle.std.proofs.Common.{rules, ◌≡◌, Some, refl, sym, ap, ◌∙◌}
 use Rattle.std.proofs.lemmas.Result.{err_from_is_err_and}
 use Rattle.chord_caller.specs.Submitted.{submitted_at, is_over, request_of, submission_of}
-use Rattle.chord_caller.proofs.Waiting.{is_waiting}
-use Rattle.chord_caller.proofs.Views.{shows, pending_asked, taken_asked, submission_asked, within_window}
+use Rattle.chord_caller.proofs.Waiting.{is_waiting, idle_unless}
+use Rattle.chord_caller.proofs.Views.{shows, pending_asked, settled_asked, submission_asked, within_window}
 use Rattle.chord_caller.proofs.Steps.{resend_steps}
 use Rattle.chord_caller.proofs.caller_core.CallerCore.resend.Goals as goal
 
@@ -11,7 +11,7 @@ returns-in_default-progress-clause-answer c =
     let core = c.self.inside in
     let found = c.in-Some.ensures ∙ ap (submitted_at c.args.number) c.deref.ensures.value in
     sym (pending_asked core.number core.window core.submitted.items core.mine.items core.told.items c.args.self.now c.self.view_is c.self.invariant.tied c.args.number (Some c.in-Some.submitted.now) found)
-    ∙ ap (λ p. is_waiting (Some p)) c.in_default-progress.is
+    ∙ idle_unless c.in-Some.submitted.now.progress c.in_default-progress.not-Pending
 
 pub returns-in_err-request-clause-answer : goal.returns-in_err-request-clause-answer
 returns-in_err-request-clause-answer c =
@@ -33,7 +33,7 @@ returns-clause-answer c =
     let core = c.self.inside in
     let found = c.in-Some.ensures ∙ ap (submitted_at c.args.number) c.deref.ensures.value in
     let s = shows core.number core.window core.floor core.submitted.items core.mine.items core.told.items c.args.self.now c.self.view_is c.self.invariant.tied c.self.invariant.floor_is in
-    let waits = taken_asked core.number core.window core.submitted.items core.mine.items core.told.items c.args.self.now c.self.view_is c.self.invariant.tied c.args.number (Some c.in-Some.submitted.now) found
+    let waits = settled_asked core.number core.window core.submitted.items core.mine.items core.told.items c.args.self.now c.self.view_is c.self.invariant.tied c.args.number (Some c.in-Some.submitted.now) found
     ∙ ap (λ p. is_over (Some p)) c.in-Pending.is in
     let at = submission_asked core.number core.window core.submitted.items core.mine.items core.told.items c.args.self.now c.self.view_is c.args.number (Some c.in-Some.submitted.now) found in
     let request_is = ap (request_of core.mine.items) c.in-Pending.is in

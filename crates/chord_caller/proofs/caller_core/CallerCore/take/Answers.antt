@@ -6,9 +6,10 @@ use Rattle.chord_map.specs.declared.done.Done.{Done}
 use Rattle.chord_caller.specs.declared.submitted.RequestProgress.TheVariants.{Pending}
 use Rattle.chord_caller.specs.declared.submitted.Submitted.{Submitted}
 use Rattle.chord_caller.specs.Caller.{Caller, with_reply}
-use Rattle.chord_caller.specs.Submitted.{submitted_at, is_over, AreTaken, IsFloor, Settles, request_of, submission_of, caller_of}
-use Rattle.chord_caller.proofs.Views.{taken_asked, submission_asked, fresh_is}
-use Rattle.chord_caller.proofs.Taking.{over_stays, settled_keeps, settled_is}
+use Rattle.chord_caller.specs.Submitted.{submitted_at, is_over, AreSettled, IsFloor, Settles, request_of, submission_of, caller_of}
+use Rattle.chord_caller.proofs.Views.{settled_asked, submission_asked, fresh_is}
+use Rattle.chord_caller.proofs.Taking.{over_entry, over_stays, settled_keeps, settled_is}
+use Rattle.chord_caller.proofs.Waiting.{over_unless}
 use Rattle.chord_caller.proofs.Steps.{fresh_steps, known_steps}
 use Rattle.chord_caller.proofs.caller_core.CallerCore.take.Goals as goal
 
@@ -16,9 +17,9 @@ pub returns-in_default-progress-clause-answer : goal.returns-in_default-progress
 returns-in_default-progress-clause-answer c =
     let core = c.self.inside in
     let found = c.in-Some.ensures ∙ ap (submitted_at c.args.told.number) c.deref.ensures.value in
-    let taken = taken_asked core.number core.window core.submitted.items core.mine.items core.told.items c.args.self.now c.self.view_is c.self.invariant.tied c.args.told.number (Some c.in-Some.submitted.now) found
-    ∙ ap (λ p. is_over (Some p)) c.in_default-progress.is in
-    (c.if-told-self.false ∙ ap (λ (caller : Caller). caller.number) c.self.view_is, taken, refl)
+    let settled = settled_asked core.number core.window core.submitted.items core.mine.items core.told.items c.args.self.now c.self.view_is c.self.invariant.tied c.args.told.number (Some c.in-Some.submitted.now) found
+    ∙ over_unless c.in-Some.submitted.now.progress c.in_default-progress.not-Pending in
+    (c.if-told-self.false ∙ ap (λ (caller : Caller). caller.number) c.self.view_is, settled, refl)
 
 pub returns-in_default-progress-clause-step : goal.returns-in_default-progress-clause-step
 returns-in_default-progress-clause-step c = known_steps c.args.told c.args.self.now c.args.self.now (returns-in_default-progress-clause-answer c)
@@ -27,7 +28,7 @@ pub returns-then-not-fits-clause-answer : goal.returns-then-not-fits-clause-answ
 returns-then-not-fits-clause-answer c =
     let core = c.self.inside in
     let found = c.in-Some.ensures ∙ ap (submitted_at c.args.told.number) c.deref.ensures.value in
-    let waits = taken_asked core.number core.window core.submitted.items core.mine.items core.told.items c.args.self.now c.self.view_is c.self.invariant.tied c.args.told.number (Some c.in-Some.submitted.now) found
+    let waits = settled_asked core.number core.window core.submitted.items core.mine.items core.told.items c.args.self.now c.self.view_is c.self.invariant.tied c.args.told.number (Some c.in-Some.submitted.now) found
     ∙ ap (λ p. is_over (Some p)) c.in-Pending.is in
     let at = submission_asked core.number core.window core.submitted.items core.mine.items core.told.items c.args.self.now c.self.view_is c.args.told.number (Some c.in-Some.submitted.now) found in
     let misfit : fits c.args.told.reply c.in-Pending.request ≡ false = search rules in
@@ -37,7 +38,7 @@ pub returns-in_err-reserve-clause-answer : goal.returns-in_err-reserve-clause-an
 returns-in_err-reserve-clause-answer c =
     let core = c.self.inside in
     let found = c.in-Some.ensures ∙ ap (submitted_at c.args.told.number) c.deref.ensures.value in
-    let waits = taken_asked core.number core.window core.submitted.items core.mine.items core.told.items c.args.self.now c.self.view_is c.self.invariant.tied c.args.told.number (Some c.in-Some.submitted.now) found
+    let waits = settled_asked core.number core.window core.submitted.items core.mine.items core.told.items c.args.self.now c.self.view_is c.self.invariant.tied c.args.told.number (Some c.in-Some.submitted.now) found
     ∙ ap (λ p. is_over (Some p)) c.in-Pending.is in
     let at = submission_asked core.number core.window core.submitted.items core.mine.items core.told.items c.args.self.now c.self.view_is c.args.told.number (Some c.in-Some.submitted.now) found in
     let fit : fits c.args.told.reply c.in-Pending.request ≡ true = search rules in
@@ -48,12 +49,12 @@ returns-in_err-reserve-clause-answer c =
     let p = err_from_is_err_and c.from_residual.result c.from_residual.ensures.1 in
     rw (p.1, p.2) (request_of core.mine.items c.in-Some.submitted.now.progress, fresh, same)
 
-pub raise_floor-self-inside-requires-clause-taken : goal.raise_floor-self-inside-requires-clause-taken
-raise_floor-self-inside-requires-clause-taken c =
+pub raise_floor-self-inside-requires-clause-settled : goal.raise_floor-self-inside-requires-clause-settled
+raise_floor-self-inside-requires-clause-settled c =
     let core = c.self.inside in
     let settled = c.settle.ensures in
-    subst (λ (all : List Submitted). AreTaken core.floor all) (sym (c.deref-2.ensures.value ∙ settled.submitted_is))
-    (over_stays core.submitted.items c.reserve.new.self.items settled.place settled.entry settled.entry_is core.floor (c.self.invariant.floor_is).taken)
+    subst (λ (all : List Submitted). AreSettled core.floor all) (sym (c.deref-2.ensures.value ∙ settled.submitted_is))
+    (over_stays core.submitted.items settled.place settled.entry (over_entry c.reserve.new.self.items settled.entry) settled.entry_is refl core.floor (c.self.invariant.floor_is).settled)
 
 pub invariant_of-self-2 : goal.invariant_of-self-2
 invariant_of-self-2 c =
@@ -68,7 +69,7 @@ returns-clause-answer c =
     let core = c.self.inside in
     let settled = subst (λ (all : List Done). Settles c.args.told core.submitted.items all c.settle.new.submitted.items c.settle.new.mine.items) c.reserve.ensures.items c.settle.ensures in
     let found = c.in-Some.ensures ∙ ap (submitted_at c.args.told.number) c.deref.ensures.value in
-    let waits = taken_asked core.number core.window core.submitted.items core.mine.items core.told.items c.args.self.now c.self.view_is c.self.invariant.tied c.args.told.number (Some c.in-Some.submitted.now) found
+    let waits = settled_asked core.number core.window core.submitted.items core.mine.items core.told.items c.args.self.now c.self.view_is c.self.invariant.tied c.args.told.number (Some c.in-Some.submitted.now) found
     ∙ ap (λ p. is_over (Some p)) c.in-Pending.is in
     let at = submission_asked core.number core.window core.submitted.items core.mine.items core.told.items c.args.self.now c.self.view_is c.args.told.number (Some c.in-Some.submitted.now) found in
     let fit : fits c.args.told.reply c.in-Pending.request ≡ true = search rules in
