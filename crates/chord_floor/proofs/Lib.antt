@@ -1,0 +1,9 @@
+mod Carried
+mod Steps
+mod Rising
+mod Since
+mod Raised
+mod Final
+mod Asked
+mod Settled
+mod Merely
