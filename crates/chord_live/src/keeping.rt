@@ -61,7 +61,8 @@ impl<'a, J: Naming, S: EntryStore> RingCaller<'a, J, S, CallerCore> {
         ensures { Ended WaitIs number self.old result self.new }
     {
         for _ in 0..self.ring.tries() {
-            match self.wait(rt, number) {
+            let limit = self.ring.wait_of_try();
+            match self.wait(rt, number, limit) {
                 Err(WaitFault::NoAnswer) if !self.ring.is_stopped() => {}
                 ended => return ended,
             }

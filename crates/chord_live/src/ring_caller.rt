@@ -2,7 +2,7 @@
 ghost use Rattle.std.specs.Prelude.{◌≡◌, ◌≤◌, ◌<◌, [], ◌∷◌, Ok, Err, None, true, IfOk, IfErr, IfSome, OnErr};
 ghost use Rattle.chord_caller.specs.Answers.{PendingIs, is_pending};
 ghost use Rattle.chord_caller.specs.Caller.{floor_of, next_number};
-ghost use Rattle.chord_live_steps.specs.Asking.{CallIs, RetryIs};
+ghost use Rattle.chord_live_steps.specs.Asking.{CallIs, GaveUpSome, GiveUpIs, RetryIs};
 ghost use Rattle.chord_live_steps.specs.Begun.{BeginIs, IsCallOf, MaySubmit, Submitted};
 ghost use Rattle.chord_live_steps.specs.Ending.{Ended};
 ghost use Rattle.chord_live_types.specs.declared.caller.AskFault.TheVariants as AskFault;
@@ -12,7 +12,7 @@ ghost use Rattle.chord_table.specs.Shown.{CallerShown};
 
 use crate::guesses::Guesses;
 use crate::last_key::LastKey;
-use crate::route::Route;
+use crate::route::{Route, Way};
 use chord_caller::ClientCore;
 use chord_ident::Id;
 use chord_live_ring::{Carried, ReturnedCaller, Ring};
@@ -24,6 +24,16 @@ use chord_table::{CallerSeat, Envelope, Naming, Witness};
 use std::marker::Model;
 use std::sync::Wait;
 use std::time::{Clock, Duration, Instant};
+
+/// How long a call that is carried waits before it is sent again, at first.
+const FIRST_PAUSE_US: u64 = 200;
+
+/// How often it is sent within a try at most: the pauses double, so that the longest try, of 60
+/// seconds, has 20.
+const MOST_SENDS: u64 = 32;
+
+/// The longest sleep of a wait. A ring that is stopped is seen behind it.
+const LONGEST_SLEEP_MS: u64 = 50;
 
 /// One who asks a ring, which it borrows. Contracts see what its seat shows: the whole caller,
 /// which is data of the proof alone where the core stores less.
@@ -71,7 +81,7 @@ impl<'a, J: Naming, S: EntryStore, C: AskingCore> RingCaller<'a, J, S, C> {
         caller
     }
 
-    /// The greatest number such that the replies to it and to all below it were taken.
+    /// The greatest number such that it and all below it are settled: taken or given up.
     pub fn floor(&self) -> u64
         ensures { result ≡ floor_of self.now.caller }
     {
@@ -91,6 +101,23 @@ impl<'a, J: Naming, S: EntryStore, C: AskingCore> RingCaller<'a, J, S, C> {
         ensures { result ≡ is_pending number self.now.caller }
     {
         self.own.is_pending(number)
+    }
+
+    /// Gives the request of this number up, and tells whether it was pending: it is then settled
+    /// without a reply, and a reply to it that comes later is not taken. What was sent of it may
+    /// have acted, or may still act, once.
+    pub fn give_up(&mut self, number: u64) -> bool
+        ensures { GiveUpIs number self.old result self.new }
+    {
+        self.own.give_up(self.ring.table(), number)
+    }
+
+    /// Gives up all requests that are pending.
+    pub fn give_up_all(&mut self)
+        ensures idle { PendingIs self.new.caller None }
+        ensures given { GaveUpSome self.old self.new }
+    {
+        self.own.give_up_all(self.ring.table());
     }
 
     /// The caller's seat, to be given back to the ring when that ends. Replies that it keeps are
@@ -178,16 +205,23 @@ impl<'a, J: Naming, S: EntryStore, C: AskingCore> RingCaller<'a, J, S, C> {
         }
     }
 
-    /// Waits for the reply to a request, as long as one try may wait.
-    pub(crate) fn wait<R: Wait + Clock>(&mut self, rt: &R, number: u64) -> Result<Reply, WaitFault>
+    /// Waits for the reply to a request, no longer than `limit`.
+    pub(crate) fn wait<R: Wait + Clock>(
+        &mut self,
+        rt: &R,
+        number: u64,
+        limit: Duration,
+    ) -> Result<Reply, WaitFault>
         ensures { Ended C.ends number self.old result self.new }
     {
+        let longest = Duration::from_millis(LONGEST_SLEEP_MS);
         let start = Instant::now(rt).ok();
         for _ in 0..u64::MAX {
-            let left = self.ring.time_left(rt, &start);
-            match self.hear(rt, left, number) {
+            let left = self.ring.time_left(rt, &start, limit);
+            match self.hear(rt, left.min(longest), number) {
                 Some(Err(WaitFault::NoAnswer)) => {}
                 Some(ended) => return ended,
+                None if left > longest && start.is_some() => {}
                 None => return Err(WaitFault::NoAnswer),
             }
         }
@@ -264,51 +298,82 @@ impl<'a, J: Naming, S: EntryStore, C: AskingCore> RingCaller<'a, J, S, C> {
         }
     }
 
-    /// Sends an envelope, and waits if its reply does not come back at once.
+    /// Sends an envelope, and waits no longer than `limit` if its reply does not come back at once.
     fn send<R: Wait + Clock>(
         &mut self,
         rt: &R,
-        route: Route,
-        via: u64,
+        way: Way,
         envelope: Envelope<J>,
         number: u64,
+        limit: Duration,
     ) -> Result<Reply, WaitFault>
         requires { IsCallOf self.old.caller number envelope }
         ensures { Ended C.ends number self.old result self.new }
     {
-        match route {
-            Route::Inbox => self.ring.post(rt, Target::Node(via), envelope),
-            Route::Carried => match self.carry(rt, via, envelope, number) {
+        match way.route {
+            Route::Inbox => self.ring.post(rt, Target::Node(way.via), envelope),
+            Route::Carried => match self.carry(rt, way.via, envelope, number) {
                 Err(WaitFault::NoAnswer) => {}
                 ended => return ended,
             },
         }
-        self.wait(rt, number)
+        self.wait(rt, number, limit)
     }
 
-    /// Sends a pending request again, and waits for its reply.
+    /// Sends a pending request again, and waits no longer than `limit` for its reply.
     fn send_again<R: Wait + Clock>(
         &mut self,
         rt: &R,
-        route: Route,
-        via: u64,
+        way: Way,
         number: u64,
+        limit: Duration,
     ) -> Result<Reply, WaitFault>
         requires { is_pending number self.old.caller ≡ true }
         ensures { Ended C.ends number self.old result self.new }
     {
         match self.own.resend(self.ring.table(), number) {
-            Ok(envelope) => self.send(rt, route, via, envelope, number),
+            Ok(envelope) => self.send(rt, way, envelope, number, limit),
             Err(_) => Err(WaitFault::Memory),
         }
     }
 
-    /// Sends a pending request again, at most `times` times.
+    /// How long it waits for the reply to a request that was sent for the first time.
+    fn first_wait(&self, route: Route) -> Duration {
+        match route {
+            Route::Inbox => self.ring.wait_of_try(),
+            Route::Carried => Duration::from_micros(FIRST_PAUSE_US),
+        }
+    }
+
+    /// One more try: sends a pending request again. A call that is carried is sent again within the
+    /// try too, after pauses that double, since the key that it is for may move just now.
+    fn try_again<R: Wait + Clock>(
+        &mut self,
+        rt: &R,
+        way: Way,
+        number: u64,
+    ) -> Result<Reply, WaitFault>
+        requires { is_pending number self.old.caller ≡ true }
+        ensures { Ended C.ends number self.old result self.new }
+    {
+        let start = Instant::now(rt).ok();
+        let mut pause = self.first_wait(way.route);
+        for _ in 0..MOST_SENDS {
+            let left = self.ring.time_left(rt, &start, self.ring.wait_of_try());
+            match self.send_again(rt, way, number, left.min(pause)) {
+                Err(WaitFault::NoAnswer) if pause < left => {}
+                ended => return ended,
+            }
+            pause = pause.saturating_mul(2);
+        }
+        Err(WaitFault::NoAnswer)
+    }
+
+    /// Tries a pending request again, at most `times` times.
     fn send_repeatedly<R: Wait + Clock>(
         &mut self,
         rt: &R,
-        route: Route,
-        via: u64,
+        way: Way,
         number: u64,
         times: u64,
     ) -> Result<Reply, WaitFault>
@@ -316,7 +381,7 @@ impl<'a, J: Naming, S: EntryStore, C: AskingCore> RingCaller<'a, J, S, C> {
         ensures { Ended C.ends number self.old result self.new }
     {
         for _ in 0..times {
-            match self.send_again(rt, route, via, number) {
+            match self.try_again(rt, way, number) {
                 Err(WaitFault::NoAnswer) if !self.ring.is_stopped() => {}
                 ended => return ended,
             }
@@ -324,12 +389,12 @@ impl<'a, J: Naming, S: EntryStore, C: AskingCore> RingCaller<'a, J, S, C> {
         Err(WaitFault::NoAnswer)
     }
 
-    /// Sends a new request, as often as the ring's settings allow.
+    /// Sends a new request, as often as the ring's settings allow. A call that is carried has just
+    /// begun its first try when it was sent once.
     fn send_until_answered<R: Wait + Clock>(
         &mut self,
         rt: &R,
-        route: Route,
-        via: u64,
+        way: Way,
         envelope: Envelope<J>,
         number: u64,
     ) -> Result<Reply, WaitFault>
@@ -337,30 +402,33 @@ impl<'a, J: Naming, S: EntryStore, C: AskingCore> RingCaller<'a, J, S, C> {
         requires call { IsCallOf self.old.caller number envelope }
         ensures { Ended C.ends number self.old result self.new }
     {
-        let more = self.ring.tries() - 1;
-        match self.send(rt, route, via, envelope, number) {
+        let tries = self.ring.tries();
+        let limit = self.first_wait(way.route);
+        match self.send(rt, way, envelope, number, limit) {
             Err(WaitFault::NoAnswer) => {}
             ended => return ended,
         }
-        self.send_repeatedly(rt, route, via, number, more)
+        match way.route {
+            Route::Inbox => self.send_repeatedly(rt, way, number, tries - 1),
+            Route::Carried => self.send_repeatedly(rt, way, number, tries),
+        }
     }
 
     /// Submits a request, and sends it until it is answered.
     fn submit_and_send<R: Wait + Clock>(
         &mut self,
         rt: &R,
-        route: Route,
-        via: u64,
+        way: Way,
         request: Request,
     ) -> Result<Reply, AskFault>
         ensures answer { CallIs C.ends request self.old result self.new }
-        ensures placed { J.name.slots ≤ via → MaySubmit request self.old.caller → result ≡ Err (AskFault.Begin BeginFault.NoSuchNode) }
+        ensures placed { J.name.slots ≤ way.via → MaySubmit request self.old.caller → result ≡ Err (AskFault.Begin BeginFault.NoSuchNode) }
     {
-        let (number, envelope) = match self.submit(via, request) {
+        let (number, envelope) = match self.submit(way.via, request) {
             Ok(sent) => sent,
             Err(fault) => return Err(AskFault::Begin(fault)),
         };
-        match self.send_until_answered(rt, route, via, envelope, number) {
+        match self.send_until_answered(rt, way, envelope, number) {
             Ok(reply) => Ok(reply),
             Err(fault) => Err(AskFault::Wait(fault)),
         }
@@ -370,21 +438,20 @@ impl<'a, J: Naming, S: EntryStore, C: AskingCore> RingCaller<'a, J, S, C> {
     fn send_pending<R: Wait + Clock>(
         &mut self,
         rt: &R,
-        route: Route,
-        via: u64,
+        way: Way,
         number: u64,
     ) -> Result<Reply, RetryFault>
         ensures answer { RetryIs C.ends number self.old result self.new }
-        ensures placed { J.name.slots ≤ via → is_pending number self.old.caller ≡ true → result ≡ Err RetryFault.NoSuchNode }
+        ensures placed { J.name.slots ≤ way.via → is_pending number self.old.caller ≡ true → result ≡ Err RetryFault.NoSuchNode }
     {
         if !self.own.is_pending(number) {
             return Err(RetryFault::Idle);
         }
-        if !self.ring.was_admitted(via) {
+        if !self.ring.was_admitted(way.via) {
             return Err(RetryFault::NoSuchNode);
         }
         let tries = self.ring.tries();
-        match self.send_repeatedly(rt, route, via, number, tries) {
+        match self.send_repeatedly(rt, way, number, tries) {
             Ok(reply) => Ok(reply),
             Err(fault) => Err(RetryFault::Wait(fault)),
         }
@@ -393,7 +460,8 @@ impl<'a, J: Naming, S: EntryStore, C: AskingCore> RingCaller<'a, J, S, C> {
     /// Submits a request and waits for its reply. The calling thread itself does each node's event,
     /// under that node's lock: no worker is needed. It begins at the node that answered last for
     /// identifiers with the same first byte, else at `via`. If no reply comes back, as while a
-    /// handover is under way, it waits and tries again. A request without its reply stays pending.
+    /// handover is under way, it is sent again after 0.2 ms, 0.4 ms and so on within a try, as many
+    /// tries as the ring's settings say. A request without its reply stays pending.
     pub fn call<R: Wait + Clock>(
         &mut self,
         rt: &R,
@@ -404,7 +472,7 @@ impl<'a, J: Naming, S: EntryStore, C: AskingCore> RingCaller<'a, J, S, C> {
         ensures placed { J.name.slots ≤ via → MaySubmit request self.old.caller → result ≡ Err (AskFault.Begin BeginFault.NoSuchNode) }
         ensures shown { CallerShown self.new }
     {
-        let answered = self.submit_and_send(rt, Route::Carried, via, request);
+        let answered = self.submit_and_send(rt, Way::carried(via), request);
         self.look();
         answered
     }
@@ -422,7 +490,7 @@ impl<'a, J: Naming, S: EntryStore, C: AskingCore> RingCaller<'a, J, S, C> {
         ensures placed { J.name.slots ≤ via → is_pending number self.old.caller ≡ true → result ≡ Err RetryFault.NoSuchNode }
         ensures shown { CallerShown self.new }
     {
-        let answered = self.send_pending(rt, Route::Carried, via, number);
+        let answered = self.send_pending(rt, Way::carried(via), number);
         self.look();
         answered
     }
@@ -439,7 +507,7 @@ impl<'a, J: Naming, S: EntryStore, C: AskingCore> RingCaller<'a, J, S, C> {
         ensures placed { J.name.slots ≤ via → MaySubmit request self.old.caller → result ≡ Err (AskFault.Begin BeginFault.NoSuchNode) }
         ensures shown { CallerShown self.new }
     {
-        let answered = self.submit_and_send(rt, Route::Inbox, via, request);
+        let answered = self.submit_and_send(rt, Way::by_inbox(via), request);
         self.look();
         answered
     }
@@ -455,7 +523,7 @@ impl<'a, J: Naming, S: EntryStore, C: AskingCore> RingCaller<'a, J, S, C> {
         ensures placed { J.name.slots ≤ via → is_pending number self.old.caller ≡ true → result ≡ Err RetryFault.NoSuchNode }
         ensures shown { CallerShown self.new }
     {
-        let answered = self.send_pending(rt, Route::Inbox, via, number);
+        let answered = self.send_pending(rt, Way::by_inbox(via), number);
         self.look();
         answered
     }

@@ -1,6 +1,7 @@
 -- A message that came is among those that a seat shows.
 use Rattle.std.proofs.Common.{◌≡◌, [], ◌∷◌, ◌++◌, Option, Some, sym, subst, Contains}
 use Rattle.std.proofs.lemmas.List.Elements.{Contains-push}
+use Rattle.chord_live_ring.specs.Seats.{IsSeatOf}
 use Rattle.chord_live_steps.specs.Dealt.{message_in}
 use Rattle.chord_live_steps.specs.declared.target.Target.{Target}
 use Rattle.chord_model.specs.Node.{Node, NodeStep}
@@ -22,3 +23,7 @@ acted old new envelope message node after out sent is same mine goes (done, step
   came old new envelope message is same,
   subst (λ (n : Node). NodeStep n (Some message) after sent done) mine (subst (λ (m : Option Message). NodeStep node (Some message) after m done) goes step),
 )
+
+-- the node that a seat shows which is not lent
+pub shown_by : (node : Node) (seat : Option NodeSight) (sight : NodeSight) → seat ≡ Some sight → IsSeatOf node seat → node ≡ sight.node
+shown_by node seat sight is shows = subst (λ (s : Option NodeSight). IsSeatOf node s) is shows

@@ -1,3 +1,7 @@
 pub mod Coming
+pub mod Departures
 pub mod Gathering
 pub mod Looked
+pub mod Moments
+pub mod Places
+pub mod Relinked

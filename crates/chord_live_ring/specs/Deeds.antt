@@ -4,9 +4,9 @@ use Rattle.chord_live_ring.specs.declared.deed.Deed.{Deed}
 use Rattle.chord_live_ring.specs.declared.deed.Deed.TheVariants as deed
 use Rattle.chord_live_ring.specs.declared.deed.MessageKind.{MessageKind}
 use Rattle.chord_live_ring.specs.declared.deed.MessageKind.TheVariants as kind
-use Rattle.chord_live_ring.specs.declared.node_counts.AskCounts.{AskCounts}
-use Rattle.chord_live_ring.specs.declared.node_counts.HandoverCounts.{HandoverCounts}
-use Rattle.chord_live_ring.specs.declared.node_counts.NodeCounts.{NodeCounts}
+use Rattle.chord_sight.specs.declared.counts.AskCounts.{AskCounts}
+use Rattle.chord_sight.specs.declared.counts.HandoverCounts.{HandoverCounts}
+use Rattle.chord_sight.specs.declared.counts.NodeCounts.{NodeCounts}
 use Rattle.chord_model.specs.declared.message.Message.{Message}
 use Rattle.chord_model.specs.declared.message.Message.TheVariants as message
 

@@ -1,6 +1,9 @@
 pub mod Closings
 pub mod Deeds
+pub mod Departures
+pub mod Moments
 pub mod Parts
 pub mod Refused
 pub mod SeatedCalls
+pub mod Seats
 pub mod Sights

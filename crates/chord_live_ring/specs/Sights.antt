@@ -7,19 +7,22 @@ use Rattle.chord_links.specs.declared.peer.Peer.{Peer}
 use Rattle.chord_handover.specs.Handover.{Item}
 use Rattle.chord_ident.specs.Circle.{in_span}
 use Rattle.chord_live_ring.specs.declared.deed.MessageKind.{MessageKind}
-use Rattle.chord_live_ring.specs.declared.node_counts.NodeCounts.{NodeCounts}
-use Rattle.chord_live_ring.specs.declared.sight.NodeSight.{NodeSight}
-use Rattle.chord_live_ring.specs.declared.sight.OutboxSight.{OutboxSight}
-use Rattle.chord_live_ring.specs.declared.sight.SegmentSight.{SegmentSight}
+use Rattle.chord_sight.specs.declared.counts.NodeCounts.{NodeCounts}
+use Rattle.chord_sight.specs.declared.node.NodeSight.{NodeSight}
+use Rattle.chord_sight.specs.declared.parts.OutboxSight.{OutboxSight}
+use Rattle.chord_sight.specs.declared.parts.SegmentSight.{SegmentSight}
 use Rattle.chord_live_ring.specs.Deeds.{counted_if, deed_of, kind_of}
 use Rattle.chord_model.specs.Node.{Node, segment_with}
 use Rattle.chord_model.specs.declared.holder.Holder.{Holder}
 use Rattle.chord_model.specs.declared.holder.Holder.TheVariants as holder
 use Rattle.chord_model.specs.declared.message.Message.{Message}
-use Rattle.chord_model.specs.declared.phase.Phase.{Phase}
+use Rattle.chord_model.specs.declared.phase.Phase.{Phase as NodePhase}
+use Rattle.chord_model.specs.declared.phase.Phase.TheVariants as phase
 use Rattle.chord_node.specs.declared.pages.PairsPage.{PairsPage}
 use Rattle.chord_node.specs.Pages.{PairsFromIs}
 use Rattle.chord_segment.specs.Segment.{Segment}
+use Rattle.chord_sight.specs.declared.phase.Phase.{Phase}
+use Rattle.chord_sight.specs.declared.phase.Phase.TheVariants as seen
 use Rattle.chord_table.specs.Shown.{NodeShown}
 
 -- a node with its seat: the node and the messages that its seat shows, and what it did
@@ -49,6 +52,13 @@ segment_sight segment = record { span = segment.span; kept = capped (length segm
 abbrev pub outbox_sight : Item → OutboxSight
 outbox_sight item = record { to = item.to; number = item.number; span = item.segment.span; pairs = length item.pairs }
 
+-- the phase of a node that crashed or not
+abbrev pub phase_seen : Bool → NodePhase → Phase
+phase_seen true before = seen.Crashed
+phase_seen false phase.Staying = seen.Staying
+phase_seen false phase.Leaving = seen.Leaving
+phase_seen false phase.Gone = seen.Gone
+
 -- the number of another node, if one is known
 abbrev pub number_in : Option Peer → Option ℕ
 number_in None = None
@@ -66,7 +76,6 @@ pub record NodeLook : Type 0 where
   pub number : ℕ
   pub id : Id
   pub phase : Phase
-  pub crashed : Bool
   pub predecessor : Option ℕ
   pub successors : List ℕ
   pub fingers : ℕ
@@ -81,7 +90,6 @@ look_in sight = record {
   number = sight.number;
   id = sight.id;
   phase = sight.phase;
-  crashed = sight.crashed;
   predecessor = sight.predecessor;
   successors = sight.successors.items;
   fingers = sight.fingers;
@@ -96,8 +104,7 @@ abbrev pub sight_of : Bool → Node → NodeCounts → NodeLook
 sight_of crashed node counts = record {
   number = node.number;
   id = node.links.me.id;
-  phase = node.phase;
-  crashed = crashed;
+  phase = phase_seen crashed node.phase;
   predecessor = number_in node.links.predecessor;
   successors = numbers_of node.links.entries;
   fingers = known_fingers node.links.fingers;

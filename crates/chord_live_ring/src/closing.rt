@@ -6,17 +6,19 @@ ghost use Rattle.chord_live_ring.specs.Closings.{AreInOrder};
 ghost use Rattle.chord_table.specs.Shown.{AssemblyShown, WholeShown};
 ghost use Rattle.chord_table.specs.Views.{CallerSight, callers_among};
 
+use crate::crashed_node::CrashedNode;
+use crate::register::Register;
 use crate::returned_caller::ReturnedCaller;
 use crate::ring::Ring;
 use crate::seated_node::SeatedNode;
 use crate::slot::{Slot, SlotState};
 use chord_store::EntryStore;
-use chord_table::{Assembly, Naming, Registrar, Shared};
+use chord_table::{Naming, Registrar, Shared};
 
 /// The seats of a ring that ended: all its nodes, and the callers that were given back.
 #[derive(Drop)]
 pub struct Closed<J: Naming> {
-    pub seats: Assembly<J>,
+    pub seats: Registrar<J>,
     /// Whether these are all nodes and callers that the ring admitted.
     pub is_whole: bool,
 }
@@ -24,7 +26,7 @@ pub struct Closed<J: Naming> {
 /// The seats that were taken in so far.
 #[derive(Drop)]
 struct Gathering<J: Naming> {
-    seats: Assembly<J>,
+    seats: Registrar<J>,
     nodes: u64,
     callers: u64,
     /// Whether each had the number after the one before, from 0 on.
@@ -45,10 +47,11 @@ fn next_count(is_in_order: bool, count: u64, number: u64) -> (bool, u64)
 impl<J: Naming> Gathering<J> {
     /// No seats yet.
     fn of(registrar: Registrar<J>) -> Gathering<J>
-        ensures { result.seats ≡ record { register = registrar; taken = [] } }
+        requires { registrar.taken ≡ [] }
+        ensures { result.seats ≡ registrar }
     {
         Gathering {
-            seats: Assembly::of(registrar),
+            seats: registrar,
             nodes: 0,
             callers: 0,
             is_in_order: true,
@@ -62,6 +65,18 @@ impl<J: Naming> Gathering<J> {
     {
         let number = seated.number();
         self.seats.take_node(table, seated.into_seat());
+        let (is_in_order, nodes) = next_count(self.is_in_order, self.nodes, number);
+        self.is_in_order = is_in_order;
+        self.nodes = nodes;
+    }
+
+    /// Takes in the seat of a node that crashed, which is dropped.
+    fn take_crashed<S: EntryStore>(&mut self, table: &Shared<J>, crashed: CrashedNode<J, S>)
+        ensures register { self.new.seats.register ≡ self.old.seats.register }
+        ensures callers { callers_among self.new.seats.taken ≡ callers_among self.old.seats.taken }
+    {
+        let number = crashed.number();
+        self.seats.take_crashed(table, crashed.into_seat());
         let (is_in_order, nodes) = next_count(self.is_in_order, self.nodes, number);
         self.is_in_order = is_in_order;
         self.nodes = nodes;
@@ -97,7 +112,8 @@ impl<J: Naming> Gathering<J> {
         drop(envelopes);
         match state.into_inner() {
             SlotState::Vacant => {}
-            SlotState::Here(seated) | SlotState::Crashed(seated) => self.take_node(table, seated),
+            SlotState::Here(seated) => self.take_node(table, seated),
+            SlotState::Crashed(crashed) => self.take_crashed(table, crashed),
         }
     }
 
@@ -151,11 +167,11 @@ impl<J: Naming, S: EntryStore> Ring<J, S> {
     {
         let Ring {
             table,
-            numbers,
+            register,
             slots,
             ..
         } = self;
-        let numbers = numbers.into_inner();
+        let Register { numbers } = register.into_inner();
         let (nodes, places) = (numbers.nodes() as u64, numbers.callers() as u64);
         let mut all = Gathering::of(numbers.into_registrar());
         all.take_slots(&table, slots);

@@ -10,23 +10,27 @@
 //! [`Ring::carry`] does the nodes' events on the calling thread. `chord_live` has such callers.
 #![tactic(auto)]
 
+mod board;
 mod carried;
 mod closing;
+mod counting;
+mod crashed_node;
 mod deed;
+mod departing;
 mod fault;
 mod handing_over;
+mod linking;
 mod looking;
-mod node_counts;
+mod moment;
 mod probe;
 mod reader;
+mod register;
 mod resting;
-mod retirement;
 mod returned_caller;
 mod ring;
 mod ring_parts;
 mod round;
 mod seated_node;
-mod sight;
 mod slot;
 mod tick;
 mod waiting;
@@ -39,11 +43,9 @@ pub use chord_live_types::{
     TickFault,
 };
 pub use closing::Closed;
-pub use fault::RingRetireFault;
-pub use node_counts::{AskCounts, HandoverCounts, NodeCounts};
+pub use fault::{CrashFault, RingRetireFault};
 pub use probe::{NoProbe, Probe};
 pub use returned_caller::ReturnedCaller;
 pub use ring::Ring;
 pub use ring_parts::RingParts;
 pub use round::Round;
-pub use sight::{NodeSight, OutboxSight, SegmentSight};

@@ -4,16 +4,40 @@ ghost use Rattle.chord_handover.specs.Handover.{Item};
 ghost use Rattle.chord_ident.specs.Circle.{in_span};
 ghost use Rattle.chord_model.specs.declared.holder.Holder.TheVariants.{UnderWay};
 ghost use Rattle.chord_segment.specs.Callers.{calls_in};
-ghost use Rattle.chord_live_ring.specs.Sights.{capped, segment_sight, outbox_sight, known_fingers, numbers_of, GivesIs, HoldingIs};
+ghost use Rattle.chord_live_ring.specs.Sights.{capped, segment_sight, outbox_sight, known_fingers, look_in, number_in, numbers_of, phase_seen, sight_of, GivesIs, HoldingIs};
 ghost use Rattle.chord_live_steps.specs.Pieces.{goes_to, GivesToIs};
 
-use crate::sight::{OutboxSight, SegmentSight};
 use chord_ident::Id;
 use chord_links::{Fingers, Peer};
 use chord_node::{Holder, Node};
 use chord_segment::{CallerReplies, Segment};
+use chord_sight::{NodeCounts, NodeSight, OutboxSight, Phase, SegmentSight};
 use chord_store::EntryStore;
 use std::alloc::{AllocError, Global};
+
+/// The phase of a node that crashed or not.
+fn phase_seen(crashed: bool, phase: chord_node::Phase) -> Phase
+    ensures { result ≡ phase_seen crashed phase }
+{
+    if crashed {
+        return Phase::Crashed;
+    }
+    match phase {
+        chord_node::Phase::Staying => Phase::Staying,
+        chord_node::Phase::Leaving => Phase::Leaving,
+        chord_node::Phase::Gone => Phase::Gone,
+    }
+}
+
+/// The number of another node, if one is known.
+fn number_in(peer: Option<Peer>) -> Option<u64>
+    ensures { result ≡ number_in peer }
+{
+    match peer {
+        Some(peer) => Some(peer.number),
+        None => None,
+    }
+}
 
 /// How many fingers are known.
 pub(crate) fn known_fingers(fingers: &Fingers) -> u64
@@ -176,4 +200,31 @@ pub(crate) fn gives_to<S: EntryStore>(node: &Node<S>, to: u64) -> bool
         }
     }
     false
+}
+
+/// How a node looks.
+pub(crate) fn sight_of<S: EntryStore>(
+    alloc: Global,
+    node: &Node<S>,
+    counts: NodeCounts,
+    crashed: bool,
+) -> Result<NodeSight, AllocError>
+    ensures { IfOk result (λ sight. look_in sight ≡ sight_of crashed node.now counts) }
+{
+    let links = node.links();
+    let successors = numbers_of(alloc, links.list().entries())?;
+    let segments = segments_of(alloc, node)?;
+    let outbox = outbox_of(alloc, node)?;
+    Ok(NodeSight {
+        number: node.number(),
+        id: links.me().id,
+        phase: phase_seen(crashed, node.phase()),
+        predecessor: number_in(links.predecessor()),
+        successors,
+        fingers: known_fingers(links.fingers()),
+        segments,
+        pairs: node.pair_count(),
+        outbox,
+        counts,
+    })
 }

@@ -1,24 +1,23 @@
 //! Slots for nodes and inboxes for callers, over one table.
-ghost use Rattle.std.specs.Prelude.{◌≡◌, ◌<◌, ◌≤◌, [], true, Ok, None, IfOk, IfErr, IfSome, vec_len};
+ghost use Rattle.std.specs.Prelude.{◌≡◌, ◌<◌, ◌≤◌, [], true, Ok, None, Contains, IfOk, IfErr, OnErr, IfSome, vec_len};
 ghost use Rattle.chord_caller.specs.Answers.{new_caller};
 ghost use Rattle.chord_caller.specs.Client.{IsCoreOf};
 ghost use Rattle.chord_live_ring.specs.Sights.{IsPageShown, IsSightOf};
 ghost use Rattle.chord_live_types.specs.Limits.{AreWithin};
 
+use crate::board::Board;
 use crate::reader::RingReader;
+use crate::register::Register;
 use crate::seated_node::SeatedNode;
-use crate::sight::NodeSight;
 use crate::slot::{Inbox, Slot, SlotState};
 use chord_caller::{CallerCore, ClientCore};
 use chord_ident::Id;
 use chord_links::{Links, Peer};
 use chord_live_steps::Numbers;
-use chord_live_types::{
-    CreateFault, JoinFault, LeaveFault, NoSuchNode, OpenClientFault, OpenFault, Settings,
-};
+use chord_live_types::{CreateFault, JoinFault, LeaveFault, OpenClientFault, OpenFault, Settings};
 use chord_node::{Holder, PairsPage, Phase};
-use chord_ring::join_behind;
 use chord_route::find_predecessor;
+use chord_sight::NodeSight;
 use chord_store::EntryStore;
 use chord_table::{CallerSeat, Naming, Shared};
 use std::alloc::{AllocError, Global};
@@ -32,9 +31,10 @@ pub struct Ring<J: Naming, S: EntryStore> {
     pub(crate) alloc: Global,
     pub(crate) settings: Settings,
     pub(crate) table: Shared<J>,
-    pub(crate) numbers: Mutex<Numbers<J>>,
-    /// The links of all members, filled while a node retires.
-    pub(crate) board: Mutex<Vec<Option<Links>>>,
+    /// Who was admitted. Locked before any node.
+    pub(crate) register: Mutex<Register<J>>,
+    /// The links of all members, filled while a departure is judged. Locked behind the register.
+    pub(crate) board: Mutex<Board<J>>,
     /// How many nodes were admitted.
     pub(crate) nodes: AtomicU64,
     pub(crate) slots: Vec<Slot<J, S>>,
@@ -220,7 +220,8 @@ impl<J: Naming, S: EntryStore> Ring<J, S> {
         ensures peer { IfOk result (λ peer. peer ≡ record { number = 0; id = id }) }
         ensures back { IfErr result (λ refused. refused.1 ≡ store) }
     {
-        let mut numbers = self.numbers.lock(rt);
+        let mut register = self.register.lock(rt);
+        let numbers = &mut register.numbers;
         if self.is_stopped() {
             return Err((CreateFault::Stopped, store));
         }
@@ -236,38 +237,57 @@ impl<J: Naming, S: EntryStore> Ring<J, S> {
         }
     }
 
-    /// The links of a new node, after the node that comes before it on the circle.
-    fn links_behind(&self, rt: &impl Wait, me: Peer, via: u64) -> Result<Links, JoinFault>
-        ensures { IfOk result (λ links. links.me ≡ me) }
-    {
+    /// The number of the node that comes before an identifier on the circle, as a lookup from
+    /// `via` finds it.
+    fn node_before(&self, rt: &impl Wait, id: Id, via: u64) -> Result<u64, JoinFault> {
         if !self.was_admitted(via) {
             return Err(JoinFault::NoSuchNode);
         }
         let reader = RingReader { ring: self, rt };
-        let Ok(before) = find_predecessor(&reader, via, me.id) else {
-            return Err(JoinFault::Unsettled);
-        };
-        if !self.is_live(before.number) {
-            return Err(JoinFault::Unsettled);
-        }
-        let Some(links) = self.links_of(rt, before.number) else {
-            return Err(JoinFault::Unsettled);
-        };
-        match join_behind(me, &links) {
-            Ok(links) => Ok(links),
+        match find_predecessor(&reader, via, id) {
+            Ok(before) => Ok(before.number),
             Err(_) => Err(JoinFault::Unsettled),
         }
     }
 
+    /// Admits a node behind this one, under that one's lock, or gives the store back.
+    fn admit_behind(
+        &self,
+        rt: &impl Wait,
+        numbers: &mut Numbers<J>,
+        before: u64,
+        me: Peer,
+        store: S,
+    ) -> Result<SeatedNode<J, S>, (JoinFault, S)>
+        requires some { 0 < numbers.old.nodes }
+        requires alone { numbers.old.taken ≡ [] }
+        requires slot { numbers.old.nodes < J.name.slots }
+        requires next { me.number ≡ numbers.old.nodes }
+        requires unused { ¬ Contains numbers.old.ids me.id }
+        requires vacant { S.content store ≡ [] }
+        ensures alone { numbers.new.taken ≡ [] }
+        ensures back { IfErr result (λ refused. refused.1 ≡ store) }
+        ensures same { OnErr result (numbers.new ≡ numbers.old) }
+    {
+        let Some(slot) = self.slots.get(before as usize) else {
+            return Err((JoinFault::Unsettled, store));
+        };
+        match &mut *slot.state.lock(rt) {
+            SlotState::Here(pred) => pred.admit_behind(numbers, &self.table, self.alloc, me, store),
+            _ => Err((JoinFault::Unsettled, store)),
+        }
+    }
+
     /// Admits a later node, after the one that a lookup from `via` finds before it, or gives the
-    /// store back.
+    /// store back. It joins under that one's lock, as that one's links are then.
     pub fn join(&self, rt: &impl Wait, id: Id, via: u64, store: S) -> Result<Peer, (JoinFault, S)>
         requires vacant { S.content store ≡ [] }
         ensures back { IfErr result (λ refused. refused.1 ≡ store) }
         ensures named { IfOk result (λ peer. peer.id ≡ id) }
         ensures numbered { IfOk result (λ peer. (1 ≤ peer.number) × (peer.number < J.name.slots)) }
     {
-        let mut numbers = self.numbers.lock(rt);
+        let mut register = self.register.lock(rt);
+        let numbers = &mut register.numbers;
         if self.is_stopped() {
             return Err((JoinFault::Stopped, store));
         }
@@ -285,17 +305,13 @@ impl<J: Naming, S: EntryStore> Ring<J, S> {
             number: number as u64,
             id,
         };
-        let links = match self.links_behind(rt, me, via) {
-            Ok(links) => links,
+        let before = match self.node_before(rt, id, via) {
+            Ok(before) => before,
             Err(fault) => return Err((fault, store)),
         };
-        match numbers.join(&self.table, self.alloc, links, store) {
-            Ok((node, seat)) => {
-                self.fill_slot(rt, number, SeatedNode::new(node, seat));
-                Ok(me)
-            }
-            Err(store) => Err((JoinFault::Memory, store)),
-        }
+        let seated = self.admit_behind(rt, numbers, before, me, store)?;
+        self.fill_slot(rt, number, seated);
+        Ok(me)
     }
 
     /// Makes a node begin to leave.
@@ -318,23 +334,6 @@ impl<J: Naming, S: EntryStore> Ring<J, S> {
         begun
     }
 
-    /// Crashes a node: it takes no further step, others find it dead, and its store stays as it is.
-    pub fn crash(&self, rt: &impl Wait, number: u64) -> Result<(), NoSuchNode> {
-        if !self.was_admitted(number) {
-            return Err(NoSuchNode);
-        }
-        let Some(slot) = self.slots.get(number as usize) else {
-            return Err(NoSuchNode);
-        };
-        let mut guard = slot.state.lock(rt);
-        slot.live.store(false, Ordering::SeqCst);
-        let place = std::mem::replace(&mut *guard, SlotState::Vacant);
-        drop(std::mem::replace(&mut *guard, place.crashed()));
-        drop(guard);
-        self.stir(rt);
-        Ok(())
-    }
-
     /// A caller under the next free number, with a window of 1 to 16 requests, and the seat that
     /// shows it.
     pub fn admit_caller(
@@ -347,11 +346,14 @@ impl<J: Naming, S: EntryStore> Ring<J, S> {
         ensures number { IfOk result (λ admitted. admitted.0.number < J.name.callers) }
         ensures shown { IfOk result (λ admitted. (admitted.0 ≡ new_caller admitted.0.number window) × (admitted.0 ≡ admitted.1.caller)) }
     {
-        let mut numbers = self.numbers.lock(rt);
+        let mut register = self.register.lock(rt);
         if self.is_stopped() {
             return Err(OpenFault::Stopped);
         }
-        match numbers.admit_caller(&self.table, self.alloc, window) {
+        match register
+            .numbers
+            .admit_caller(&self.table, self.alloc, window)
+        {
             Some(admitted) => Ok(admitted),
             None => Err(OpenFault::CallersSpent),
         }
@@ -369,10 +371,12 @@ impl<J: Naming, S: EntryStore> Ring<J, S> {
         ensures number { IfOk result (λ admitted. admitted.1.caller.number < J.name.callers) }
         ensures shown { IfOk result (λ admitted. (admitted.1.caller ≡ new_caller admitted.1.caller.number window) × IsCoreOf admitted.0 admitted.1.caller) }
     {
-        let mut numbers = self.numbers.lock(rt);
+        let mut register = self.register.lock(rt);
         if self.is_stopped() {
             return Err(OpenClientFault::Stopped);
         }
-        numbers.admit_client(&self.table, self.alloc, window)
+        register
+            .numbers
+            .admit_client(&self.table, self.alloc, window)
     }
 }

@@ -3,9 +3,10 @@ ghost use Rattle.std.specs.Prelude.{◌≡◌, ◌↔◌, Err, IfOk, vec_len};
 ghost use Rattle.chord_live_types.specs.Limits.{AreWithin};
 ghost use Rattle.chord_live_types.specs.declared.ring.NewFault.TheVariants as NewFault;
 
+use crate::board::Board;
+use crate::register::Register;
 use crate::ring::Ring;
 use crate::slot::{Inbox, Slot, SlotState};
-use chord_links::Links;
 use chord_live_steps::Numbers;
 use chord_live_types::{NewFault, Settings};
 use chord_store::EntryStore;
@@ -65,14 +66,14 @@ impl RingParts {
         } = self;
         let slots = vacant_slots(alloc, settings.slots)?;
         let inboxes = empty_inboxes(alloc, settings.callers)?;
-        let board = empty_board(alloc, settings.slots)?;
+        let board = Board::new(alloc, settings.slots)?;
         let (table, registrar) = table.assemble::<J>();
         let numbers = Numbers::new(alloc, registrar, settings.slots, settings.callers);
         Ok(Ring {
             alloc,
             settings,
             table,
-            numbers: Mutex::new(numbers),
+            register: Mutex::new(Register { numbers }),
             board: Mutex::new(board),
             nodes: AtomicU64::new(0),
             slots,
@@ -118,13 +119,4 @@ fn empty_inboxes<J: Naming>(alloc: Global, count: usize) -> Result<Vec<Inbox<J>>
         inboxes.push(Inbox { inbox, envelopes })?;
     }
     Ok(inboxes)
-}
-
-/// `count` rows with no links.
-fn empty_board(alloc: Global, count: usize) -> Result<Vec<Option<Links>>, AllocError> {
-    let mut board = Vec::with_capacity(alloc, count)?;
-    for _ in 0..count {
-        board.push(None)?;
-    }
-    Ok(board)
 }

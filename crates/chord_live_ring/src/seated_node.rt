@@ -1,36 +1,38 @@
 //! A node with its seat.
-ghost use Rattle.std.specs.Prelude.{◌≡◌, ◌↔◌, ◌≤◌, ◌<◌, ◌++◌, [], ◌∷◌, Ok, Err, Some, None, false, length, slice_get, IsTrue, IsOk, IfOk, IfErr, IfSome, IfNone, OnOk, OnErr};
+ghost use Rattle.std.specs.Prelude.{◌≡◌, ◌↔◌, ◌≤◌, ◌<◌, ◌+◌, ◌++◌, [], ◌∷◌, Ok, Err, Contains, Some, None, false, length, slice_get, IsTrue, IsOk, IfOk, IfErr, IfSome, IfNone, OnOk, OnErr};
 ghost use Rattle.chord_handover.specs.Handover.{Part as PartOf};
-ghost use Rattle.chord_ident.specs.Circle.{IsBetween};
 ghost use Rattle.chord_links.specs.Fingers.{with_finger};
-ghost use Rattle.chord_links.specs.NodeLinks.{first_entry};
 ghost use Rattle.chord_live_steps.specs.Adjoining.{JoinIs};
 ghost use Rattle.chord_live_ring.specs.Deeds.{counted, no_counts};
 ghost use Rattle.chord_live_ring.specs.declared.deed.Deed.TheVariants.{Gave, Ticked};
 ghost use Rattle.chord_live_steps.specs.Pieces.{GivesToIs, TrimIs};
 ghost use Rattle.chord_live_ring.specs.SeatedCalls.{Gives, GivesNone, GivesPiece, RetirementIs, SendsNone, address_of, end_of, with_links};
-ghost use Rattle.chord_live_ring.specs.Sights.{HoldingIs, counts_after, kind_in, look_in, number_in, sight_of};
+ghost use Rattle.chord_live_ring.specs.Sights.{HoldingIs, counts_after, kind_in, look_in, sight_of};
 ghost use Rattle.chord_live_steps.specs.Dealt.{DealIs, IsFor};
 ghost use Rattle.chord_live_steps.specs.Tidy.{TidyIs};
-ghost use Rattle.chord_model.specs.Node.{segment_with};
+ghost use Rattle.chord_model.specs.Node.{newborn, segment_with};
 ghost use Rattle.chord_model.specs.declared.message.Message.TheVariants.{Part as PartMessage};
-ghost use Rattle.chord_node.specs.Moves.{GiveIs, LeaveIs, ResendIs, RetireIs};
+ghost use Rattle.chord_node.specs.Moves.{GiveIs, LeaveIs, ResendIs};
 ghost use Rattle.chord_node.specs.Pages.{PairsFromIs};
 ghost use Rattle.chord_node.specs.View.{span_of};
-ghost use Rattle.chord_ring.specs.Steps.{candidate_of, gives_way, links_behind, rectified_links, without_head};
+ghost use Rattle.chord_ring.specs.Steps.{joined_links};
 ghost use Rattle.chord_table.specs.Shown.{NodeShown};
 
+use crate::counting::{count, count_if, no_counts};
+use crate::crashed_node::CrashedNode;
 use crate::deed::{Deed, MessageKind};
-use crate::looking::{gives_to, holding_of, known_fingers, numbers_of, outbox_of, segments_of};
-use crate::node_counts::NodeCounts;
-use crate::sight::NodeSight;
+use crate::looking::{gives_to, holding_of, sight_of};
 use chord_ident::Id;
 use chord_links::{Links, Peer};
-use chord_live_steps::{Keyed, Target, Tidied, deal_by_id, is_for, join_adjoining, tidy, trim};
+use chord_live_steps::{
+    Keyed, Numbers, Target, Tidied, deal_by_id, is_for, join_adjoining, tidy, trim,
+};
+use chord_live_types::JoinFault;
 use chord_node::{
     GiveFault, Holder, Message, Node, NotStaying, PairsPage, Phase, ResendPartFault, RetireFault,
 };
-use chord_ring::{CandidateFault, DropFault, StabiliseFault};
+use chord_ring::join_behind;
+use chord_sight::{NodeCounts, NodeSight};
 use chord_store::EntryStore;
 use chord_table::{Envelope, Naming, NodeSeat, Shared};
 use std::alloc::{AllocError, Global};
@@ -40,30 +42,21 @@ use std::marker::Model;
 /// and the counts.
 #[derive(Drop)]
 pub struct SeatedNode<J: Naming, S: EntryStore> {
-    node: Node<S>,
-    seat: NodeSeat<J>,
-    counts: NodeCounts,
+    pub(crate) node: Node<S>,
+    /// None only while the register has it, for a departure.
+    pub(crate) seat: Option<NodeSeat<J>>,
+    pub(crate) counts: NodeCounts,
 }
 
 impl<J: Naming, S: EntryStore> Model for SeatedNode<J, S> {
-    ghost use Rattle.std.specs.Prelude.{◌≡◌};
+    ghost use Rattle.chord_live_ring.specs.Seats.{IsSeatOf, messages_in};
     ghost use Rattle.chord_live_ring.specs.Sights.{Seated};
 
     ghost Value = { Seated };
 
-    ghost view = { λ a. record { node = a.seat.node; messages = a.seat.messages; counts = a.counts } };
+    ghost view = { λ a. record { node = a.node; messages = messages_in a.seat; counts = a.counts } };
 
-    ghost invariant = { λ a. a.node ≡ a.seat.node };
-}
-
-/// The number of another node, if one is known.
-fn number_in(peer: Option<Peer>) -> Option<u64>
-    ensures { result ≡ number_in peer }
-{
-    match peer {
-        Some(peer) => Some(peer.number),
-        None => None,
-    }
+    ghost invariant = { λ a. IsSeatOf a.node a.seat };
 }
 
 /// The kind of the message that is sent, if one is.
@@ -85,9 +78,58 @@ impl<J: Naming, S: EntryStore> SeatedNode<J, S> {
     {
         SeatedNode {
             node,
-            seat,
-            counts: NodeCounts::none(),
+            seat: Some(seat),
+            counts: no_counts(),
         }
+    }
+
+    /// Admits a new node behind this one, or gives the store back: this one has to be a member, and
+    /// the new one to lie before its first entry.
+    pub fn admit_behind(
+        &mut self,
+        numbers: &mut Numbers<J>,
+        table: &Shared<J>,
+        alloc: Global,
+        me: Peer,
+        store: S,
+    ) -> Result<SeatedNode<J, S>, (JoinFault, S)>
+        requires some { 0 < numbers.old.nodes }
+        requires alone { numbers.old.taken ≡ [] }
+        requires slot { numbers.old.nodes < J.name.slots }
+        requires next { me.number ≡ numbers.old.nodes }
+        requires unused { ¬ Contains numbers.old.ids me.id }
+        requires vacant { S.content store ≡ [] }
+        ensures same { self.new ≡ self.old }
+        ensures counted { OnOk result (numbers.new ≡ record numbers.old { nodes = numbers.old.nodes + 1; ids = numbers.old.ids ++ me.id ∷ [] }) }
+        ensures node { IfOk result (λ new. new ≡ record { node = newborn (joined_links me self.old.node.links) (S.limit store); messages = []; counts = no_counts }) }
+        ensures back { IfErr result (λ refused. refused.1 ≡ store) }
+        ensures kept { OnErr result (numbers.new ≡ numbers.old) }
+    {
+        if !self.is_member() {
+            return Err((JoinFault::Unsettled, store));
+        }
+        let Ok(links) = join_behind(me, self.node.links()) else {
+            return Err((JoinFault::Unsettled, store));
+        };
+        let Some(seat) = &mut self.seat else {
+            unreachable!()
+        };
+        match numbers.join(table, alloc, links, seat, store) {
+            Ok((node, seat)) => Ok(SeatedNode::new(node, seat)),
+            Err(store) => Err((JoinFault::Memory, store)),
+        }
+    }
+
+    /// The node, crashed by force.
+    pub fn crash_by_force(self, numbers: &mut Numbers<J>, table: &Shared<J>) -> CrashedNode<J, S>
+        requires alone { numbers.old.taken ≡ [] }
+        ensures broken { numbers.new ≡ record numbers.old { premise = false } }
+        ensures same { result ≡ self }
+    {
+        let SeatedNode { node, seat, counts } = self;
+        let Some(seat) = seat else { unreachable!() };
+        let seat = Some(numbers.crash_by_force(table, seat));
+        CrashedNode { node, seat, counts }
     }
 
     /// The node's number.
@@ -107,6 +149,7 @@ impl<J: Naming, S: EntryStore> SeatedNode<J, S> {
             counts: _,
         } = self;
         drop(node);
+        let Some(seat) = seat else { unreachable!() };
         seat
     }
 
@@ -115,30 +158,17 @@ impl<J: Naming, S: EntryStore> SeatedNode<J, S> {
         ensures same { self.new ≡ self.old }
         ensures shown { NodeShown (record { node = self.old.node; messages = self.old.messages }) }
     {
-        self.seat.look(table);
+        let Some(seat) = &mut self.seat else {
+            unreachable!()
+        };
+        seat.look(table);
     }
 
-    /// How the node looks now. Whether it crashed is not its own to know.
-    pub fn sight(&self, alloc: Global, crashed: bool) -> Result<NodeSight, AllocError>
-        ensures { IfOk result (λ sight. look_in sight ≡ sight_of crashed self.now.node self.now.counts) }
+    /// How the node looks now.
+    pub fn sight(&self, alloc: Global) -> Result<NodeSight, AllocError>
+        ensures { IfOk result (λ sight. look_in sight ≡ sight_of false self.now.node self.now.counts) }
     {
-        let links = self.node.links();
-        let successors = numbers_of(alloc, links.list().entries())?;
-        let segments = segments_of(alloc, &self.node)?;
-        let outbox = outbox_of(alloc, &self.node)?;
-        Ok(NodeSight {
-            number: self.node.number(),
-            id: links.me().id,
-            phase: self.node.phase(),
-            crashed,
-            predecessor: number_in(links.predecessor()),
-            successors,
-            fingers: known_fingers(links.fingers()),
-            segments,
-            pairs: self.node.pair_count(),
-            outbox,
-            counts: self.counts,
-        })
+        sight_of(alloc, &self.node, self.counts, false)
     }
 
     /// The node if it holds the identifier, else its first handover of it, if its outbox has one.
@@ -166,7 +196,7 @@ impl<J: Naming, S: EntryStore> SeatedNode<J, S> {
     pub fn count_tick(&mut self)
         ensures { self.new ≡ record self.old { counts = counted Ticked self.old.counts } }
     {
-        self.counts.count(Deed::Ticked);
+        count(&mut self.counts, Deed::Ticked);
     }
 
     /// What the node knows of the others.
@@ -196,7 +226,7 @@ impl<J: Naming, S: EntryStore> SeatedNode<J, S> {
         let before = self.node.held_count();
         let sent = self.deal_with(table, keyed);
         let deed = Deed::of(came, kind_sent(&sent), before, self.node.held_count());
-        self.counts.count_if(deed);
+        count_if(&mut self.counts, deed);
         sent
     }
 
@@ -208,95 +238,25 @@ impl<J: Naming, S: EntryStore> SeatedNode<J, S> {
         ensures counts { self.new.counts ≡ self.old.counts }
     {
         let Keyed { envelope, id } = keyed;
-        let message = self.seat.receive(table, envelope);
+        let Some(seat) = &mut self.seat else {
+            unreachable!()
+        };
+        let message = seat.receive(table, envelope);
         if !is_for(&message, self.node.number()) {
             drop(message);
             return None;
         }
         match deal_by_id(&mut self.node, id, message) {
             Ok(Some((target, sent))) => {
-                let envelope = self.seat.send(table, &self.node, sent);
+                let envelope = seat.send(table, &self.node, sent);
                 Some((target, Keyed { envelope, id }))
             }
             Ok(None) => {
-                self.seat.local(table, &self.node);
+                seat.local(table, &self.node);
                 None
             }
             Err(_) => None,
         }
-    }
-
-    /// Gives the node other links, with the same `me`.
-    fn set_links(&mut self, table: &Shared<J>, links: Links)
-        requires me { links.me ≡ self.old.node.links.me }
-        requires r { links.r ≡ self.old.node.links.r }
-        ensures { self.new ≡ with_links links self.old }
-    {
-        self.node.set_links(links);
-        self.seat.local(table, &self.node);
-    }
-
-    /// Copies the list of the node's first entry. Gives that entry's predecessor if it lies between
-    /// the node and the entry.
-    pub fn stabilise(
-        &mut self,
-        table: &Shared<J>,
-        head: &Links,
-        live: bool,
-    ) -> Result<Option<Peer>, StabiliseFault>
-        ensures variant { IsOk result ↔ (IsTrue live × (first_entry self.old.node.links ≡ head.now.me)) }
-        ensures ok { IfOk result (λ candidate. candidate ≡ candidate_of self.old.node.links head.now) }
-        ensures done { OnOk result (self.new ≡ with_links (links_behind self.old.node.links head.now) self.old) }
-        ensures fault { IfErr result (λ fault. (fault ≡ StabiliseFault.HeadDead) ↔ (live ≡ false)) }
-        ensures err { OnErr result (self.new ≡ self.old) }
-    {
-        let mut links = *self.node.links();
-        let candidate = chord_ring::stabilise(&mut links, head, live)?;
-        self.set_links(table, links);
-        Ok(candidate)
-    }
-
-    /// Takes a live node that lies between the node and its first entry as the first entry.
-    pub fn take_candidate(
-        &mut self,
-        table: &Shared<J>,
-        candidate: &Links,
-        live: bool,
-    ) -> Result<(), CandidateFault>
-        ensures variant { IsOk result ↔ (IsTrue live
-            × IsBetween self.old.node.links.me.id.number candidate.now.me.id.number (first_entry self.old.node.links).id.number) }
-        ensures done { OnOk result (self.new ≡ with_links (links_behind self.old.node.links candidate.now) self.old) }
-        ensures fault { IfErr result (λ fault. (fault ≡ CandidateFault.Dead) ↔ (live ≡ false)) }
-        ensures err { OnErr result (self.new ≡ self.old) }
-    {
-        let mut links = *self.node.links();
-        chord_ring::take_candidate(&mut links, candidate, live)?;
-        self.set_links(table, links);
-        Ok(())
-    }
-
-    /// Drops the dead first entry, if there is another.
-    pub fn drop_dead(&mut self, table: &Shared<J>, head_live: bool) -> Result<(), DropFault>
-        ensures variant { IsOk result ↔ ((head_live ≡ false) × (1 < length self.old.node.links.entries)) }
-        ensures done { OnOk result (self.new ≡ with_links (without_head self.old.node.links) self.old) }
-        ensures fault { IfErr result (λ fault. (fault ≡ DropFault.HeadLive) ↔ IsTrue head_live) }
-        ensures err { OnErr result (self.new ≡ self.old) }
-    {
-        let mut links = *self.node.links();
-        chord_ring::drop_dead(&mut links, head_live)?;
-        self.set_links(table, links);
-        Ok(())
-    }
-
-    /// Hears of a node that may be its predecessor, and says whether it is now.
-    pub fn rectify(&mut self, table: &Shared<J>, notifier: Peer, predecessor_live: bool) -> bool
-        ensures answer { result ≡ gives_way self.old.node.links.me notifier predecessor_live self.old.node.links.predecessor }
-        ensures done { self.new ≡ with_links (rectified_links self.old.node.links notifier result) self.old }
-    {
-        let mut links = *self.node.links();
-        let gives = chord_ring::rectify(&mut links, notifier, predecessor_live);
-        self.set_links(table, links);
-        gives
     }
 
     /// Points a finger, counted from 1, at another node.
@@ -305,9 +265,13 @@ impl<J: Naming, S: EntryStore> SeatedNode<J, S> {
         requires high { finger ≤ 128 }
         ensures { self.new ≡ with_links (record self.old.node.links { fingers = with_finger self.old.node.links.fingers finger to }) self.old }
     {
+        let Some(seat) = &mut self.seat else {
+            unreachable!()
+        };
         let mut links = *self.node.links();
         links.set_finger(finger, to);
-        self.set_links(table, links);
+        self.node.set_links(links);
+        seat.local(table, &self.node);
     }
 
     /// Cuts or finds a held segment that is not the node's own, given its predecessor.
@@ -316,9 +280,12 @@ impl<J: Naming, S: EntryStore> SeatedNode<J, S> {
         ensures counts { self.new.counts ≡ self.old.counts }
         ensures answer { TidyIs predecessor self.old.node result self.new.node }
     {
+        let Some(seat) = &mut self.seat else {
+            unreachable!()
+        };
         let tidied = tidy(&mut self.node, predecessor)?;
         if tidied == Tidied::Cut {
-            self.seat.local(table, &self.node);
+            seat.local(table, &self.node);
         }
         Ok(tidied)
     }
@@ -329,9 +296,12 @@ impl<J: Naming, S: EntryStore> SeatedNode<J, S> {
         ensures counts { self.new.counts ≡ self.old.counts }
         ensures answer { JoinIs predecessor self.old.node result self.new.node }
     {
+        let Some(seat) = &mut self.seat else {
+            unreachable!()
+        };
         let joined = join_adjoining(&mut self.node, predecessor)?;
         if joined {
-            self.seat.local(table, &self.node);
+            seat.local(table, &self.node);
         }
         Ok(joined)
     }
@@ -343,9 +313,12 @@ impl<J: Naming, S: EntryStore> SeatedNode<J, S> {
         ensures answer { TrimIs place most self.old.node result self.new.node }
         ensures err { OnErr result (self.new ≡ self.old) }
     {
+        let Some(seat) = &mut self.seat else {
+            unreachable!()
+        };
         let was_cut = trim(&mut self.node, place, most)?;
         if was_cut {
-            self.seat.local(table, &self.node);
+            seat.local(table, &self.node);
         }
         Ok(was_cut)
     }
@@ -372,10 +345,13 @@ impl<J: Naming, S: EntryStore> SeatedNode<J, S> {
         ensures err { IfErr result (λ fault. GiveIs place to self.old.node (Err fault) self.new.node) }
         ensures kept { OnErr result (self.new ≡ self.old) }
     {
+        let Some(seat) = &mut self.seat else {
+            unreachable!()
+        };
         let part = self.node.give(place, to)?;
         let number = part.number;
-        let envelope = self.seat.send(table, &self.node, Message::Part(part));
-        self.counts.count(Deed::Gave);
+        let envelope = seat.send(table, &self.node, Message::Part(part));
+        count(&mut self.counts, Deed::Gave);
         Ok((number, envelope))
     }
 
@@ -428,8 +404,11 @@ impl<J: Naming, S: EntryStore> SeatedNode<J, S> {
         ensures ok { IfOk result (λ sent. (found : PartOf) × ResendIs to number part self.old.node (Ok found) × (sent ≡ PartMessage found)) }
         ensures err { IfErr result (λ fault. ResendIs to number part self.old.node (Err fault)) }
     {
+        let Some(seat) = &mut self.seat else {
+            unreachable!()
+        };
         let part = self.node.resend_part(to, number, part)?;
-        Ok(self.seat.send(table, &self.node, Message::Part(part)))
+        Ok(seat.send(table, &self.node, Message::Part(part)))
     }
 
     /// Begins to leave.
@@ -438,8 +417,11 @@ impl<J: Naming, S: EntryStore> SeatedNode<J, S> {
         ensures counts { self.new.counts ≡ self.old.counts }
         ensures answer { LeaveIs self.old.node result self.new.node }
     {
+        let Some(seat) = &mut self.seat else {
+            unreachable!()
+        };
         self.node.begin_leave()?;
-        self.seat.local(table, &self.node);
+        seat.local(table, &self.node);
         Ok(())
     }
 
@@ -454,16 +436,5 @@ impl<J: Naming, S: EntryStore> SeatedNode<J, S> {
             return Some(RetireFault::NotEmpty);
         }
         None
-    }
-
-    /// Retires the node, which is gone then.
-    pub fn retire(&mut self, table: &Shared<J>) -> Result<(), RetireFault>
-        ensures messages { self.new.messages ≡ self.old.messages }
-        ensures counts { self.new.counts ≡ self.old.counts }
-        ensures answer { RetireIs self.old.node result self.new.node }
-    {
-        self.node.retire()?;
-        self.seat.local(table, &self.node);
-        Ok(())
     }
 }

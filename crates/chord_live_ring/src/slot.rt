@@ -1,13 +1,17 @@
 //! Slots of nodes.
-ghost use Rattle.std.specs.Prelude.{◌≡◌, ◌≢◌, ◌<◌, false, true, Ok, None, IfOk, IfSome};
+ghost use Rattle.std.specs.Prelude.{◌≡◌, ◌≢◌, ◌<◌, [], false, true, Ok, None, IfOk, IfSome};
 ghost use Rattle.chord_live_ring.specs.declared.slot.SlotState.TheVariants.{Vacant, Here, Crashed};
+ghost use Rattle.chord_live_ring.specs.SeatedCalls.{with_links};
 ghost use Rattle.chord_live_ring.specs.Sights.{HoldingIs, IsPageShown, IsSightOf, SightIs};
 ghost use Rattle.chord_node.specs.Pages.{PairsFromIs};
 
+use crate::crashed_node::CrashedNode;
 use crate::seated_node::SeatedNode;
-use crate::sight::NodeSight;
 use chord_ident::Id;
+use chord_links::Peer;
+use chord_live_steps::Numbers;
 use chord_node::{Holder, PairsPage};
+use chord_sight::NodeSight;
 use chord_store::EntryStore;
 use chord_table::{Envelope, Naming, Shared};
 use crossbeam_channel::{Receiver, Sender};
@@ -22,18 +26,62 @@ pub enum SlotState<J: Naming, S: EntryStore> {
     Vacant,
     Here(SeatedNode<J, S>),
     /// The node crashed: it takes no further step.
-    Crashed(SeatedNode<J, S>),
+    Crashed(CrashedNode<J, S>),
+}
+
+/// A step of the ring that a node takes beside another one.
+#[derive(Clone, Copy, Debug, PartialEq, Eq)]
+pub enum LinkStep {
+    /// Drops the other, its first entry, which departed.
+    DropHead,
+    /// Copies the list of the other, its first entry.
+    Stabilise,
+    /// Takes the other as its first entry.
+    TakeCandidate,
+    /// Hears of the other, which may be its predecessor.
+    Rectify,
+    /// Forgets the other, its predecessor, which departed.
+    Forget,
 }
 
 impl<J: Naming, S: EntryStore> SlotState<J, S> {
-    /// The slot after its node, if it has one, crashed.
-    pub fn crashed(self) -> SlotState<J, S>
+    /// The slot after its node, if it has one, crashed by force.
+    pub fn crashed_by_force(self, numbers: &mut Numbers<J>, table: &Shared<J>) -> SlotState<J, S>
+        requires alone { numbers.old.taken ≡ [] }
         ensures here { (seated : _) → self ≡ Here seated → result ≡ Crashed seated }
-        ensures other { ((seated : _) → self ≢ Here seated) → result ≡ self }
+        ensures broken { (seated : _) → self ≡ Here seated → numbers.new ≡ record numbers.old { premise = false } }
+        ensures other { ((seated : _) → self ≢ Here seated) → (result ≡ self) × (numbers.new ≡ numbers.old) }
+        ensures taken { numbers.new.taken ≡ numbers.old.taken }
     {
         match self {
-            SlotState::Here(seated) => SlotState::Crashed(seated),
+            SlotState::Here(seated) => SlotState::Crashed(seated.crash_by_force(numbers, table)),
             other => other,
+        }
+    }
+
+    /// The node in the slot takes a step of the ring beside the one in another slot, where both are
+    /// as the step wants them. Gives the candidate that a stabilisation finds.
+    pub fn step_beside(
+        &mut self,
+        table: &Shared<J>,
+        other: &mut SlotState<J, S>,
+        step: LinkStep,
+    ) -> Option<Peer>
+        ensures vacant { self.old ≡ Vacant → self.new ≡ self.old }
+        ensures here { (seated : _) → self.old ≡ Here seated → (left : _) × (self.new ≡ Here left) × (left ≡ with_links left.node.links seated) }
+        ensures crashed { (seated : _) → self.old ≡ Crashed seated → self.new ≡ self.old }
+        ensures other { other.new ≡ other.old }
+    {
+        let SlotState::Here(seated) = self else {
+            return None;
+        };
+        match other {
+            SlotState::Vacant => None,
+            SlotState::Here(theirs) => seated.step_beside(table, theirs, step),
+            SlotState::Crashed(theirs) => {
+                seated.step_beside_crashed(table, theirs, step);
+                None
+            }
         }
     }
 
@@ -46,7 +94,8 @@ impl<J: Naming, S: EntryStore> SlotState<J, S> {
     {
         match self {
             SlotState::Vacant => None,
-            SlotState::Here(seated) | SlotState::Crashed(seated) => seated.holding(id),
+            SlotState::Here(seated) => seated.holding(id),
+            SlotState::Crashed(seated) => seated.holding(id),
         }
     }
 
@@ -66,11 +115,11 @@ impl<J: Naming, S: EntryStore> SlotState<J, S> {
             SlotState::Vacant => Ok(None),
             SlotState::Here(seated) => {
                 seated.look(table);
-                Ok(Some(seated.sight(alloc, false)?))
+                Ok(Some(seated.sight(alloc)?))
             }
             SlotState::Crashed(seated) => {
                 seated.look(table);
-                Ok(Some(seated.sight(alloc, true)?))
+                Ok(Some(seated.sight(alloc)?))
             }
         }
     }

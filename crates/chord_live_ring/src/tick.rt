@@ -6,7 +6,7 @@ use crate::reader::RingReader;
 use crate::ring::Ring;
 use crate::round::Round;
 use crate::seated_node::SeatedNode;
-use crate::slot::SlotState;
+use crate::slot::{LinkStep, SlotState};
 use chord_ident::Id;
 use chord_links::{Links, Peer};
 use chord_live_steps::Tidied;
@@ -32,74 +32,80 @@ enum NextMove {
 }
 
 impl<J: Naming, S: EntryStore> Ring<J, S> {
-    /// Drops the first entry of a node, which is dead.
-    fn drop_head(&self, rt: &impl Wait, number: u64) {
+    /// A node takes a step of the ring beside another one, under both nodes' locks, the lower number
+    /// first. Gives the candidate that a stabilisation finds.
+    fn beside(&self, rt: &impl Wait, number: u64, other: u64, step: LinkStep) -> Option<Peer> {
+        let mine = self.slots.get(number as usize)?;
+        let theirs = self.slots.get(other as usize)?;
+        if number == other {
+            return None;
+        }
+        if number < other {
+            let mut mine = mine.state.lock(rt);
+            let mut theirs = theirs.state.lock(rt);
+            mine.step_beside(&self.table, &mut *theirs, step)
+        } else {
+            let mut theirs = theirs.state.lock(rt);
+            let mut mine = mine.state.lock(rt);
+            mine.step_beside(&self.table, &mut *theirs, step)
+        }
+    }
+
+    /// A node that has no predecessor, and is its own first entry, is its own predecessor.
+    fn stand_alone(&self, rt: &impl Wait, number: u64) {
         let Some(slot) = self.slots.get(number as usize) else {
             return;
         };
         if let SlotState::Here(seated) = &mut *slot.state.lock(rt) {
-            let _ = seated.drop_dead(&self.table, false).is_ok();
+            if seated.is_member() {
+                let _ = seated.stand_alone(&self.table);
+            }
         }
     }
 
-    /// Stabilises a node with its first entry's links, and gives the candidate found.
-    fn stabilise(&self, rt: &impl Wait, number: u64, head: &Links) -> Option<Peer> {
-        let slot = self.slots.get(number as usize)?;
-        let live = self.is_live(head.me().number);
-        match &mut *slot.state.lock(rt) {
-            SlotState::Here(seated) => match seated.stabilise(&self.table, head, live) {
-                Ok(candidate) => candidate,
-                Err(_) => None,
-            },
-            _ => None,
-        }
-    }
-
-    /// Takes a candidate as the first entry of a node, if it is live.
-    fn take_candidate(&self, rt: &impl Wait, number: u64, candidate: Peer) {
-        let Some(theirs) = self.links_of(rt, candidate.number) else {
+    /// A node hears of another one, which may be its predecessor. It forgets a predecessor that
+    /// departed.
+    fn rectify(&self, rt: &impl Wait, number: u64, notifier: u64) {
+        let Some(links) = self.links_of(rt, number) else {
             return;
         };
-        let Some(slot) = self.slots.get(number as usize) else {
-            return;
-        };
-        let live = self.is_live(candidate.number);
-        if let SlotState::Here(seated) = &mut *slot.state.lock(rt) {
-            let _ = seated.take_candidate(&self.table, &theirs, live).is_ok();
+        if let Some(peer) = links.predecessor() {
+            if !self.is_live(peer.number) {
+                let _ = self.beside(rt, number, peer.number, LinkStep::Forget);
+            }
+        }
+        if number == notifier {
+            self.stand_alone(rt, number);
+        } else {
+            let _ = self.beside(rt, number, notifier, LinkStep::Rectify);
         }
     }
 
-    /// A node rectifies its predecessor, given a notifier.
-    fn rectify(&self, rt: &impl Wait, number: u64, notifier: Peer) {
-        let Some(slot) = self.slots.get(number as usize) else {
-            return;
-        };
-        if let SlotState::Here(seated) = &mut *slot.state.lock(rt) {
-            let predecessor = seated.links().predecessor();
-            let live = match predecessor {
-                Some(peer) => self.is_live(peer.number),
-                None => false,
-            };
-            seated.rectify(&self.table, notifier, live);
+    /// What a node learns from its first entry: a node between the two. A node that is its own first
+    /// entry learns of its predecessor.
+    fn candidate(&self, rt: &impl Wait, links: &Links) -> Option<Peer> {
+        let me = links.me();
+        let head = links.first();
+        if head.number == me.number {
+            links.predecessor()
+        } else {
+            self.beside(rt, me.number, head.number, LinkStep::Stabilise)
         }
     }
 
-    /// The ring steps of a tick: drop a dead first entry, stabilise, rectify.
+    /// The ring steps of a tick: drop a dead first entry, or else stabilise and rectify.
     fn maintain_links(&self, rt: &impl Wait, links: &Links) {
         let me = links.me();
         let head = links.first();
         if !self.is_live(head.number) {
-            self.drop_head(rt, me.number);
+            let _ = self.beside(rt, me.number, head.number, LinkStep::DropHead);
             return;
         }
-        if let Some(theirs) = self.links_of(rt, head.number) {
-            if let Some(candidate) = self.stabilise(rt, me.number, &theirs) {
-                self.take_candidate(rt, me.number, candidate);
-            }
+        if let Some(candidate) = self.candidate(rt, links) {
+            let _ = self.beside(rt, me.number, candidate.number, LinkStep::TakeCandidate);
         }
         if let Some(now) = self.links_of(rt, me.number) {
-            let first = now.first();
-            self.rectify(rt, first.number, me);
+            self.rectify(rt, now.first().number, me.number);
         }
     }
 

@@ -69,12 +69,22 @@ pub(crate) fn lock_soon<'l, T>(rt: &impl Wait, lock: &'l Mutex<T>) -> MutexGuard
 }
 
 impl<J: Naming, S: EntryStore> Ring<J, S> {
-    /// How long a wait that began at `start` may still last.
-    pub fn time_left<R: Wait + Clock>(&self, rt: &R, start: &Option<Instant>) -> Duration {
+    /// How long a try waits for its answer.
+    pub fn wait_of_try(&self) -> Duration {
+        Duration::from_millis(self.settings.wait_ms)
+    }
+
+    /// How long a wait of at most `limit` that began at `start` may still last: no longer once the
+    /// ring is stopped.
+    pub fn time_left<R: Wait + Clock>(
+        &self,
+        rt: &R,
+        start: &Option<Instant>,
+        limit: Duration,
+    ) -> Duration {
         if self.is_stopped() {
             return Duration::from_millis(0);
         }
-        let limit = Duration::from_millis(self.settings.wait_ms);
         match start {
             Some(start) => match start.elapsed(rt) {
                 Ok(passed) => limit.saturating_sub(passed),

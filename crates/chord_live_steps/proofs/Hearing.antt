@@ -4,7 +4,7 @@ use Rattle.std.proofs.Math.Bool.{or-false}
 use Rattle.std.proofs.lemmas.Bool.{cond-false, and_parts, eqb-true, not-true, true≢false}
 use Rattle.std.proofs.lemmas.Option.{none-some}
 use Rattle.chord_caller.specs.Answers.{TakeIs, is_pending}
-use Rattle.chord_caller.specs.Caller.{Caller, request_for_reply, fresh_for, is_taken, submission_at, with_reply}
+use Rattle.chord_caller.specs.Caller.{Caller, request_for_reply, fresh_for, is_taken, is_settled, is_among, submission_at, with_reply}
 use Rattle.chord_caller.specs.declared.fault.TakeFault.{TakeFault}
 use Rattle.chord_caller.specs.declared.fault.TakeFault.TheVariants.{Foreign, Memory}
 use Rattle.chord_caller.specs.declared.heard.Heard.{Heard as TakenAs}
@@ -18,7 +18,7 @@ use Rattle.chord_live_steps.specs.Laws.{none_more}
 use Rattle.chord_map.specs.declared.reply.Reply.{Reply}
 use Rattle.chord_map.specs.declared.request.Request.{Request}
 use Rattle.chord_map.proofs.Lists.{by_option, by_test}
-use Rattle.chord_model.proofs.CallerLemmas.{is_taken_from}
+use Rattle.chord_model.proofs.CallerLemmas.{is_taken_from, unsettled_untaken}
 use Rattle.chord_map.specs.History.{done_at}
 use Rattle.chord_map.specs.declared.done.Done.{Done}
 use Rattle.chord_map.proofs.HistoryLemmas.{done_right, done_alone, is_call}
@@ -27,14 +27,14 @@ waits_same : (number : ℕ) (old new : Caller) → new ≡ old → WaitsStill nu
 waits_same number old new same = (([], same ∙ none_more old), ap (is_pending number) same)
 
 -- a fresh reply is to one of the caller's own pending requests
-fresh_own : (told : Told) (caller : Caller) (request : Request) → fresh_for told caller ≡ Some request → (told.caller ≡ caller.number) × (is_taken caller told.number ≡ false)
+fresh_own : (told : Told) (caller : Caller) (request : Request) → fresh_for told caller ≡ Some request → (told.caller ≡ caller.number) × (is_settled caller told.number ≡ false)
 unfolding fresh_for
 fresh_own told caller request e =
-    let test : Bool = eqb told.caller caller.number && not (is_taken caller told.number) in
+    let test : Bool = eqb told.caller caller.number && not (is_settled caller told.number) in
     by_test test
     (λ t.
-    let tests = and_parts (eqb told.caller caller.number) (not (is_taken caller told.number)) t in
-    (eqb-true told.caller caller.number tests.0, not-true (is_taken caller told.number) tests.1))
+    let tests = and_parts (eqb told.caller caller.number) (not (is_settled caller told.number)) t in
+    (eqb-true told.caller caller.number tests.0, not-true (is_settled caller told.number) tests.1))
     (λ f. absurd (none-some request (sym (cond-false test (request_for_reply told.reply (submission_at told.number caller.submitted)) None f) ∙ e)))
 
 -- taking the reply that the caller waits for
@@ -44,7 +44,7 @@ took_fresh number told copy old new same copied (request, fresh, is) =
     let parts = fresh_own told old request fresh in
     let done : Done = record { caller = told.caller; number = told.number; request = request; reply = told.reply } in
     let none : done_at old.number told.number old.mine ≡ None =
-    by_option (done_at old.number told.number old.mine) (λ none. none) (λ one found. absurd (true≢false (sym (is_taken_from old told.number one found) ∙ parts.1))) in
+    by_option (done_at old.number told.number old.mine) (λ none. none) (λ one found. absurd (true≢false (sym (is_taken_from old told.number one found) ∙ unsettled_untaken old told.number parts.1))) in
     let last : done_at old.number told.number (done ∷ []) ≡ Some done = ap (λ n. done_at n told.number (done ∷ [])) (sym parts.0) ∙ done_alone done in
     let found : done_at old.number number (old.mine ++ done ∷ []) ≡ Some done =
     ap (λ n. done_at old.number n (old.mine ++ done ∷ [])) (sym same) ∙ done_right old.number told.number old.mine (done ∷ []) none ∙ last in (
@@ -68,12 +68,16 @@ taken_apart told request old number other =
     ∙ ap (λ b. is_some (done_at old.number number old.mine) || b) (other_alone old.number number done other)
     ∙ or-false (is_some (done_at old.number number old.mine))
 
+settled_apart : (told : Told) (request : Request) (old : Caller) (number : ℕ) → told.number ≢ number → is_settled (with_reply told request old) number ≡ is_settled old number
+unfolding is_settled
+settled_apart told request old number other = ap (λ b. b || is_among number old.given_up) (taken_apart told request old number other)
+
 -- taking any other reply
 pub took_other : (number : ℕ) (told : Told) (old new : Caller) (taken : Result TakenAs TakeFault) → told.number ≢ number → TakeIs told old taken new → WaitsStill number old new
 took_other number told old new (Ok Fresh) other (request, fresh, is) =
     let done : Done = record { caller = told.caller; number = told.number; request = request; reply = told.reply } in (
       (done ∷ [], is),
-      ap (is_pending number) is ∙ ap (λ taken. is_some (submission_at number old.submitted) && not taken) (taken_apart told request old number other),
+      ap (is_pending number) is ∙ ap (λ settled. is_some (submission_at number old.submitted) && not settled) (settled_apart told request old number other),
     )
 took_other number told old new (Ok Known) other is = waits_same number old new is.2
 took_other number told old new (Err Foreign) other is = waits_same number old new is.1

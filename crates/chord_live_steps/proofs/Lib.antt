@@ -4,3 +4,4 @@ pub mod Hearing
 pub mod Sending
 pub mod Submitting
 pub mod Waiting
+pub mod GivingUp

@@ -1,8 +1,8 @@
 -- What the calls of one who asks a ring answer. `ends` says how its waits end: AwaitIs or WaitIs.
-use Rattle.std.specs.Prelude.{◌≡◌, ℕ, true, false, None, is_some, ◌++◌, Result, Ok, Err}
+use Rattle.std.specs.Prelude.{◌≡◌, ℕ, Bool, true, false, None, is_some, List, ◌++◌, Result, Ok, Err}
 use Rattle.std.specs.declared.alloc.AllocError.{AllocError}
 use Rattle.chord_caller.specs.Answers.{is_pending}
-use Rattle.chord_caller.specs.Caller.{Caller, Note, next_number, submission_at, unknown_calls}
+use Rattle.chord_caller.specs.Caller.{Caller, Note, next_number, submission_at, unknown_calls, with_given_up}
 use Rattle.chord_live_steps.specs.Begun.{BeginIs, Submitted}
 use Rattle.chord_live_steps.specs.Ending.{Ended, WaitIs}
 use Rattle.chord_live_types.specs.declared.caller.AskFault.{AskFault}
@@ -33,6 +33,15 @@ RetryIs ends number old (Ok reply) new = (is_pending number old.caller ≡ true)
 RetryIs ends number old (Err (retry.Wait fault)) new = (is_pending number old.caller ≡ true) × Ended ends number old (Err fault) new
 RetryIs ends number old (Err retry.NoSuchNode) new = (is_pending number old.caller ≡ true) × (new ≡ old)
 RetryIs ends number old (Err retry.Idle) new = (is_pending number old.caller ≡ false) × (new ≡ old)
+
+-- the request of the number was pending and is given up, or it was not and nothing changes
+abbrev pub GiveUpIs : ℕ → CallerSight → Bool → CallerSight → Type 0
+GiveUpIs number old true new = (is_pending number old.caller ≡ true) × (new ≡ record old { caller = with_given_up number old.caller })
+GiveUpIs number old false new = (is_pending number old.caller ≡ false) × (new ≡ old)
+
+-- requests were given up, none or more, and nothing else changed
+abbrev pub GaveUpSome : CallerSight → CallerSight → Type 0
+GaveUpSome old new = (numbers : List ℕ) × (new ≡ record old { caller = record old.caller { given_up = numbers } })
 
 -- the reply to the request of the number is among the calls taken, or the request is as it was
 abbrev pub CollectIs : ℕ → CallerSight → Result Reply CollectFault → CallerSight → Type 0

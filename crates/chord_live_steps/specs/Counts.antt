@@ -1,6 +1,7 @@
--- How many actors there are, and which identifiers are taken.
-use Rattle.std.specs.Prelude.{ℕ, zero, suc, List, [], ◌∷◌, ◌++◌}
+-- How many actors there are, which identifiers are taken, and which seats were taken in.
+use Rattle.std.specs.Prelude.{ℕ, zero, suc, Bool, List, [], ◌∷◌, ◌++◌}
 use Rattle.chord_ident.specs.declared.id.Id.{Id}
+use Rattle.chord_table.specs.Seen.{Sight}
 
 -- the numbers below this one, in order
 unfoldable pub numbers_below : ℕ → List ℕ
@@ -12,3 +13,7 @@ pub record Counts : Type 0 where
   pub nodes : ℕ
   pub callers : ℕ
   pub ids : List Id
+  -- whether the ring allowed each crash
+  pub premise : Bool
+  -- what the seats of nodes show that were taken in for a departure
+  pub taken : List Sight

@@ -3,9 +3,11 @@ pub mod Asking
 pub mod Begun
 pub mod Counts
 pub mod Dealt
+pub mod Departures
 pub mod Ending
 pub mod Keys
 pub mod Laws
 pub mod Noted
 pub mod Pieces
+pub mod Registered
 pub mod Tidy

@@ -1,7 +1,7 @@
 //! What one who asks a ring knows of its own requests.
 ghost use Rattle.std.specs.Prelude.{◌≡◌, ◌≢◌, ℕ, Contains, IfOk, Result, Ok, Err, None, true};
 ghost use Rattle.chord_caller.specs.Answers.{is_pending, PendingIs, RefusalIs, ResendIs, SubmitIs};
-ghost use Rattle.chord_caller.specs.Caller.{Caller, floor_of, fresh_for};
+ghost use Rattle.chord_caller.specs.Caller.{Caller, floor_of, fresh_for, with_given_up};
 ghost use Rattle.chord_live_types.specs.declared.caller.WaitFault.{WaitFault};
 ghost use Rattle.chord_live_types.specs.declared.caller.WaitFault.TheVariants.{Full as WaitFull, Memory as WaitMemory, NoAnswer as WaitNoAnswer};
 ghost use Rattle.chord_map.specs.declared.reply.Reply.{Reply};
@@ -25,7 +25,7 @@ pub trait AskingCore: Drop {
     fn number(&self) -> u64
         ensures { (caller : Caller) → is_core_of self.now caller → result ≡ caller.number };
 
-    /// The greatest number such that the replies to it and to all below it were taken.
+    /// The greatest number such that it and all below it are settled: taken or given up.
     fn floor(&self) -> u64
         ensures { (caller : Caller) → is_core_of self.now caller → result ≡ floor_of caller };
 
@@ -49,6 +49,11 @@ pub trait AskingCore: Drop {
     /// Gives a pending request to be sent again, under its number and with the present floor.
     fn resend(&self, number: u64) -> Result<Ask, ResendFault>
         ensures { (caller : Caller) → is_core_of self.now caller → ResendIs number caller result };
+
+    /// Gives a pending request up: it is settled without a reply, and none to it will be taken.
+    fn give_up(&mut self, number: u64)
+        requires { (caller : Caller) → is_core_of self.old caller → is_pending number caller ≡ true }
+        ensures { (caller : Caller) → is_core_of self.old caller → is_core_of self.new (with_given_up number caller) };
 
     /// Takes a reply that came, and records that at the seat. Hands it out if the caller waits for
     /// the reply to the request of this number: then there is no answer only if the reply does not

@@ -68,6 +68,10 @@ impl AskingCore for CallerCore {
         self.resend(number)
     }
 
+    fn give_up(&mut self, number: u64) {
+        self.give_up(number);
+    }
+
     fn take<J: Naming>(
         &mut self,
         seat: &mut CallerSeat<J>,

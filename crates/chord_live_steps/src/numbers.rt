@@ -1,8 +1,11 @@
 //! The numbers of nodes and callers.
-ghost use Rattle.std.specs.Prelude.{◌≡◌, ◌↔◌, ◌++◌, ◌∷◌, IsTrue, Contains, ◌+◌, ◌<◌, ◌≤◌, [], false, true, IfOk, IfErr, OnOk, OnErr, IfSome, Err, None};
+ghost use Rattle.std.specs.Prelude.{◌≡◌, ◌≢◌, ◌↔◌, ◌++◌, ◌∷◌, IsTrue, Contains, ◌+◌, ◌<◌, ◌≤◌, [], false, true, IfOk, IfErr, OnOk, OnErr, IfSome, Err, None};
 ghost use Rattle.chord_caller.specs.Answers.{new_caller};
 ghost use Rattle.chord_caller.specs.Client.{IsCoreOf};
-ghost use Rattle.chord_links.specs.NodeLinks.{alone};
+ghost use Rattle.chord_ident.specs.Circle.{IsBetween};
+ghost use Rattle.chord_links.specs.NodeLinks.{alone, first_entry};
+ghost use Rattle.chord_model.specs.declared.phase.Phase.TheVariants.{Gone};
+ghost use Rattle.chord_ring.specs.Steps.{joined_links};
 ghost use Rattle.chord_live_types.specs.declared.caller.OpenClientFault.TheVariants.{CallersSpent, Memory};
 ghost use Rattle.chord_live_steps.specs.Counts.{numbers_below};
 ghost use Rattle.chord_model.specs.Node.{founder, newborn};
@@ -18,27 +21,32 @@ use std::alloc::Global;
 use std::marker::Model;
 
 /// The next free numbers, with the registrar that admitted all below them. Contracts see how many
-/// nodes and callers there are, and the identifiers of the nodes.
+/// nodes and callers there are, the identifiers of the nodes, whether the ring allowed each crash,
+/// and what the seats of nodes show that were taken in.
 #[derive(Drop)]
 pub struct Numbers<J: Naming> {
-    registrar: Registrar<J>,
+    pub(crate) registrar: Registrar<J>,
     /// The identifiers of the nodes.
     ids: Vec<Id>,
-    nodes: usize,
+    pub(crate) nodes: usize,
     callers: usize,
     slots: usize,
     places: usize,
+    /// Whether the ring allowed each crash.
+    pub(crate) premise: bool,
 }
 
 impl<J: Naming> Model for Numbers<J> {
-    ghost use Rattle.std.specs.Prelude.{◌≡◌, ◌<◌, All, length};
-    ghost use Rattle.chord_live_steps.specs.Counts.{Counts, numbers_below};
+    ghost use Rattle.std.specs.Prelude.{◌≡◌};
+    ghost use Rattle.chord_live_steps.specs.Counts.{Counts};
+    ghost use Rattle.chord_live_steps.specs.Registered.{IsRegister};
 
     ghost Value = { Counts };
 
-    ghost view = { λ a. record { nodes = a.nodes; callers = a.callers; ids = a.ids.items } };
+    ghost view = { λ a. record { nodes = a.nodes; callers = a.callers; ids = a.ids.items; premise = a.premise; taken = a.registrar.taken } };
 
-    ghost invariant = { λ a. (a.slots ≡ J.name.slots) × (a.places ≡ J.name.callers) × (length a.registrar.nodes ≡ a.nodes) × All (λ number. number < a.nodes) a.registrar.nodes × All (λ number. number < a.callers) a.registrar.callers × (a.registrar.nodes ≡ numbers_below a.nodes) × (a.registrar.callers ≡ numbers_below a.callers) };
+    ghost invariant = { λ a. (a.slots ≡ J.name.slots) × (a.places ≡ J.name.callers)
+        × IsRegister a.nodes a.callers a.ids.items a.premise a.registrar.register };
 }
 
 impl<J: Naming> Numbers<J> {
@@ -46,9 +54,8 @@ impl<J: Naming> Numbers<J> {
     pub fn new(alloc: Global, registrar: Registrar<J>, slots: usize, places: usize) -> Numbers<J>
         requires slots { slots ≡ J.name.slots }
         requires places { places ≡ J.name.callers }
-        requires nodes { registrar.nodes ≡ [] }
-        requires callers { registrar.callers ≡ [] }
-        ensures { result ≡ record { nodes = 0; callers = 0; ids = [] } }
+        requires nobody { registrar ≡ record { register = record { nodes = []; callers = []; ids = []; premise = true; principals = [] }; taken = [] } }
+        ensures { result ≡ record { nodes = 0; callers = 0; ids = []; premise = true; taken = [] } }
     {
         Numbers {
             registrar,
@@ -57,6 +64,7 @@ impl<J: Naming> Numbers<J> {
             callers: 0,
             slots,
             places,
+            premise: true,
         }
     }
 
@@ -76,10 +84,19 @@ impl<J: Naming> Numbers<J> {
 
     /// The registrar, once nobody is admitted any more.
     pub fn into_registrar(self) -> Registrar<J>
-        ensures nodes { result.nodes ≡ numbers_below self.nodes }
-        ensures callers { result.callers ≡ numbers_below self.callers }
+        ensures nodes { result.register.nodes ≡ numbers_below self.nodes }
+        ensures callers { result.register.callers ≡ numbers_below self.callers }
+        ensures premise { result.register.premise ≡ self.premise }
+        ensures taken { result.taken ≡ self.taken }
     {
         self.registrar
+    }
+
+    /// Whether the ring allowed each crash so far.
+    pub fn holds_premise(&self) -> bool
+        ensures { result ≡ self.now.premise }
+    {
+        self.premise
     }
 
     /// Whether there is a free number for a node.
@@ -106,6 +123,7 @@ impl<J: Naming> Numbers<J> {
         store: S,
     ) -> Result<(Node<S>, NodeSeat<J>), S>
         requires none { self.old.nodes ≡ 0 }
+        requires alone { self.old.taken ≡ [] }
         requires slot { 0 < J.name.slots }
         requires low { 2 ≤ r }
         requires high { r ≤ 16 }
@@ -127,31 +145,38 @@ impl<J: Naming> Numbers<J> {
         Ok((node, seat))
     }
 
-    /// Admits a later node with these links, and gives it with its seat. Gives its store back if
-    /// out of memory.
+    /// Admits a later node behind a member, whose seat the caller has, and gives it with its seat.
+    /// Gives its store back if out of memory.
     pub fn join<S: EntryStore>(
         &mut self,
         table: &Shared<J>,
         alloc: Global,
         links: Links,
+        pred: &mut NodeSeat<J>,
         store: S,
     ) -> Result<(Node<S>, NodeSeat<J>), S>
         requires some { 0 < self.old.nodes }
+        requires alone { self.old.taken ≡ [] }
         requires slot { self.old.nodes < J.name.slots }
         requires own { links.me.number ≡ self.old.nodes }
+        requires unused { ¬ Contains self.old.ids links.me.id }
+        requires live { pred.old.node.phase ≢ Gone }
+        requires between { IsBetween pred.old.node.links.me.id.number links.me.id.number (first_entry pred.old.node.links).id.number }
+        requires behind { links ≡ joined_links links.me pred.old.node.links }
         requires vacant { S.content store ≡ [] }
         ensures ok { IfOk result (λ admitted. admitted.0 ≡ newborn links (S.limit store)) }
         ensures shown { IfOk result (λ admitted. admitted.1 ≡ record { node = admitted.0; messages = [] }) }
         ensures err { IfErr result (λ back. back ≡ store) }
         ensures counted { OnOk result (self.new ≡ record self.old { nodes = self.old.nodes + 1; ids = self.old.ids ++ links.me.id ∷ [] }) }
         ensures same { OnErr result (self.new ≡ self.old) }
+        ensures pred { pred.new ≡ pred.old }
     {
         if self.ids.reserve(1).is_err() {
             return Err(store);
         }
         let me = links.me();
         let node = Node::newborn(alloc, links, store);
-        let seat = self.registrar.admit_node(table, me.number, &node);
+        let seat = self.registrar.join_node(table, me.number, &node, pred);
         self.ids.push_reserved(me.id);
         self.nodes += 1;
         Ok((node, seat))
@@ -165,6 +190,7 @@ impl<J: Naming> Numbers<J> {
         alloc: Global,
         window: u64,
     ) -> Option<(CallerCore, CallerSeat<J>)>
+        requires alone { self.old.taken ≡ [] }
         requires some { 1 ≤ window }
         requires small { window ≤ 16 }
         ensures number { IfSome result (λ admitted. (admitted.0.number ≡ self.old.callers) × (admitted.0.number < J.name.callers)) }
@@ -190,6 +216,7 @@ impl<J: Naming> Numbers<J> {
         alloc: Global,
         window: u64,
     ) -> Result<(ClientCore, CallerSeat<J>), OpenClientFault>
+        requires alone { self.old.taken ≡ [] }
         requires some { 1 ≤ window }
         requires small { window ≤ 16 }
         ensures number { OnOk result (self.old.callers < J.name.callers) }

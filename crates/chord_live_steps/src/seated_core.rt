@@ -5,6 +5,7 @@ ghost use Rattle.chord_caller.specs.Caller.{floor_of, fresh_for, next_number};
 ghost use Rattle.chord_caller.specs.declared.told.Told.{Told as ToldOf};
 ghost use Rattle.chord_caller.specs.declared.ask.Ask.{Ask as AskOf};
 ghost use Rattle.chord_live_steps.specs.Begun.{IsCallOf, Submitted};
+ghost use Rattle.chord_live_steps.specs.Asking.{GaveUpSome, GiveUpIs};
 ghost use Rattle.chord_live_steps.specs.Ending.{Ended};
 ghost use Rattle.chord_live_types.specs.declared.caller.WaitFault.TheVariants.{Full as WaitFull, Memory as WaitMemory, NoAnswer as WaitNoAnswer};
 ghost use Rattle.chord_model.specs.declared.message.Message.TheVariants.{Ask as AskMessage, Full as FullMessage, Told as ToldMessage};
@@ -45,7 +46,7 @@ impl<J: Naming, C: AskingCore> SeatedCore<J, C> {
         SeatedCore { core, seat }
     }
 
-    /// The greatest number such that the replies to it and to all below it were taken.
+    /// The greatest number such that it and all below it are settled: taken or given up.
     pub fn floor(&self) -> u64
         ensures { result ≡ floor_of self.now.caller }
     {
@@ -108,6 +109,30 @@ impl<J: Naming, C: AskingCore> SeatedCore<J, C> {
             Err(ResendFault::Memory) => return Err(AllocError),
         };
         Ok(self.seat.resend(table, ask))
+    }
+
+    /// Gives the request of this number up, and tells whether it was pending: it is then settled
+    /// without a reply, and a reply to it that comes later is not taken. What was sent of it may
+    /// have acted, or may still act, once.
+    pub fn give_up(&mut self, table: &Shared<J>, number: u64) -> bool
+        ensures { GiveUpIs number self.old result self.new }
+    {
+        if !self.core.is_pending(number) {
+            return false;
+        }
+        self.core.give_up(number);
+        self.seat.give_up(table, number);
+        true
+    }
+
+    /// Gives up all requests that are pending.
+    pub fn give_up_all(&mut self, table: &Shared<J>)
+        ensures idle { PendingIs self.new.caller None }
+        ensures given { GaveUpSome self.old self.new }
+    {
+        while let Some(number) = self.pending() {
+            let _ = self.give_up(table, number);
+        }
     }
 
     /// The caller's number and its seat. What the core stores is dropped.

@@ -153,6 +153,25 @@ fn a_reply_is_taken_once(rt: HostRuntime) {
     check!(&rt; takes_twice(rt.alloc()) == Some(once));
 }
 
+/// Of a caller that gave its one request up: whether it waits, its floor, how it judges the reply
+/// that comes then, and how many it took.
+fn gives_up(alloc: Global) -> Option<(bool, u64, Option<Heard>, usize)> {
+    let mut core = submitted(alloc, 7, 1, &[b"abc"])?;
+    if core.is_pending(1) {
+        core.give_up(1);
+    }
+    let (waits, floor) = (core.is_pending(1), core.floor());
+    let heard = core.take(added(7, 1)).ok();
+    let taken = core.mine().len();
+    drop(core);
+    Some((waits, floor, heard, taken))
+}
+
+#[test]
+fn a_request_is_given_up(rt: HostRuntime) {
+    check!(&rt; gives_up(rt.alloc()) == Some((false, 1, Some(Heard::Known), 0)));
+}
+
 /// A caller that submitted two requests and took the reply to the second, and how it judged that.
 fn second_taken(alloc: Global, number: u64) -> Option<(CallerCore, Option<Heard>)> {
     let mut core = submitted(alloc, number, 2, &[b"a", b"b"])?;

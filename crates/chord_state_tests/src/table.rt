@@ -9,7 +9,7 @@ ghost use Rattle.chord_node.specs.declared.asks.answered.Answered.TheVariants.{T
 use crate::checks::check;
 use chord_caller::{Ask, CallerCore, Heard, Told};
 use chord_ident::Id;
-use chord_links::{Links, Peer};
+use chord_links::Peer;
 use chord_map::{Reply, Request};
 use chord_node::{Answered, Message, Node};
 use chord_store::{CappedStore, EntryStore};
@@ -40,9 +40,9 @@ fn a_call_comes_as_it_was_sent(rt: HostRuntime) -> Result<(), Fail> {
 }
 
 #[test]
-fn a_node_enters_later(rt: HostRuntime) -> Result<(), Fail> {
+fn a_node_acts_before(rt: HostRuntime) -> Result<(), Fail> {
     let parts = Registrar::open(rt.alloc(), 2, 1)?;
-    let comes = enters_later::<Brand>(rt.alloc(), parts)?;
+    let comes = acts_before::<Brand>(rt.alloc(), parts)?;
     check!(&rt;
         comes,
         "a call comes to a node that was admitted beside another"
@@ -266,7 +266,8 @@ fn comes<J: Naming>(
     registrar: &mut Registrar<J>,
     seat: &mut NodeSeat<J>,
 ) -> Result<bool, Fail>
-    requires callers { registrar.old.callers ≡ [] }
+    requires callers { registrar.old.register.callers ≡ [] }
+    requires alone { registrar.old.taken ≡ [] }
     requires place { 0 < J.name.callers }
 {
     let request = insert(alloc)?;
@@ -293,24 +294,16 @@ fn comes_as_it_was_sent<J: Naming>(alloc: Global, parts: TableParts) -> Result<b
     is_first
 }
 
-/// Admits a node beside another, and records an event of it. Checks that it takes in what a caller
-/// sends then.
-fn enters_later<J: Naming>(alloc: Global, parts: TableParts) -> Result<bool, Fail>
+/// Admits a node, and records an event of it. Checks that it takes in what a caller sends then.
+fn acts_before<J: Naming>(alloc: Global, parts: TableParts) -> Result<bool, Fail>
     requires name { parts ≡ J.name }
     requires slots { parts.slots ≡ 2 }
     requires callers { parts.callers ≡ 1 }
 {
-    let other = Peer {
-        number: 0,
-        id: Id::new(7),
-    };
-    let links = Links::alone(other, 3);
-    let first = founded(alloc, 1, CappedStore::new(alloc, 4))?;
+    let mut node = founded(alloc, 0, CappedStore::new(alloc, 4))?;
     let (table, mut registrar) = parts.assemble::<J>();
-    drop(registrar.admit_node(&table, 1, &first));
-    drop(first);
-    let mut node = Node::newborn(alloc, links, CappedStore::new(alloc, 4));
     let mut seat = registrar.admit_node(&table, 0, &node);
+    let links = *node.links();
     node.set_links(links);
     seat.local(&table, &node);
     seat.look(&table);

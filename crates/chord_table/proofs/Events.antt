@@ -1,5 +1,5 @@
 -- Views that stay true after an event, or after an actor was admitted.
-use Rattle.std.proofs.Common.{◌≡◌, ℕ, inl, inr, List, [], ◌∷◌, ◌++◌, map, set, Option, Some, None, sym, ap, ◌∙◌, Contains, All}
+use Rattle.std.proofs.Common.{◌≡◌, ℕ, inl, inr, List, [], ◌∷◌, ◌++◌, map, set, Option, Some, None, refl, sym, ap, subst, ◌∙◌, Contains, All}
 use Rattle.std.proofs.lemmas.List.{map-append}
 use Rattle.std.proofs.lemmas.List.Elements.{All-contains, All-weaker, All-nil, All-cons, All-head, All-tail}
 use mathlib.Core.Option.{some}
@@ -7,134 +7,125 @@ use lib.ListN.{get_elem?}
 use Rattle.chord_caller.specs.Caller.{Caller}
 use Rattle.chord_model.specs.declared.message.Message.{Message}
 use Rattle.chord_model.specs.Node.{Node}
-use Rattle.chord_model.specs.World.{World, WorldStep, WasSent}
+use Rattle.chord_model.specs.World.{World, WasSent, node_at}
 use Rattle.chord_map.specs.declared.done.Done.{Done}
+use Rattle.chord_ring.specs.Steps.{Ring}
 use Rattle.chord_table.proofs.Later.{GoesOn, event_goes_on, was_there_after, was_there_entered}
 use Rattle.chord_table.proofs.Numbers.{one_actor}
-use Rattle.chord_table.proofs.Showing.{IsHeir, shows_changed}
+use Rattle.chord_table.proofs.Owning.{one_right, shown_heir}
+use Rattle.chord_table.proofs.Rings.{agrees_kept}
+use Rattle.chord_table.proofs.Stays.{Stays, knows_on}
+use Rattle.chord_table.proofs.Showing.{shows_changed}
 use Rattle.chord_table.proofs.Worlds.{IsNew, event_steps, there_after, others_after, nodes_after, callers_after, sent_after, others_entered}
 use Rattle.chord_table.specs.Actors.{IsThere, AreOne, Event, world_after, world_with}
 use Rattle.chord_table.specs.Later.{WasThere}
-use Rattle.chord_table.specs.Seen.{Actor, OfNode, OfCaller, Sight, View, Admitted, Shown, Witnessed, Sent, Spent}
-use Rattle.chord_table.specs.Views.{OneIs, IsSeen, IsTrueOf, HaveOneOwner, Shows}
-
--- ---- one actor
-
-one_left : (old new other : Actor) → AreOne old new → AreOne new other → AreOne old other
-one_left (OfNode old) (OfNode new) (OfNode other) same one = same ∙ one
-one_left (OfCaller old) (OfCaller new) (OfCaller other) same one = same ∙ one
-one_left (OfNode old) (OfCaller new) other same one = absurd same
-one_left (OfCaller old) (OfNode new) other same one = absurd same
-one_left (OfNode old) (OfNode new) (OfCaller other) same one = absurd one
-one_left (OfCaller old) (OfCaller new) (OfNode other) same one = absurd one
-
-one_right : (old new other : Actor) → AreOne old new → AreOne other new → AreOne other old
-one_right (OfNode old) (OfNode new) (OfNode other) same one = one ∙ sym same
-one_right (OfCaller old) (OfCaller new) (OfCaller other) same one = one ∙ sym same
-one_right (OfNode old) (OfCaller new) other same one = absurd same
-one_right (OfCaller old) (OfNode new) other same one = absurd same
-one_right (OfNode old) (OfNode new) (OfCaller other) same one = absurd one
-one_right (OfCaller old) (OfCaller new) (OfNode other) same one = absurd one
-
--- if the list has a sight of an actor in its new state, it has one of the old state
-one_is_left : (old new : Actor) (taken : List Sight) → AreOne old new → OneIs taken new → OneIs taken old
-one_is_left old new [] same h = h
-one_is_left old new (sight ∷ rest) same (inl h) = inl (one_right old new sight.actor same h)
-one_is_left old new (sight ∷ rest) same (inr h) = inr (one_is_left old new rest same h)
-
-pub shown_heir : (old new : Actor) (messages more : List Message) → AreOne old new → IsHeir (Shown old messages) (Shown new more)
-shown_heir old new messages more same = record { left = λ u. left u; right = λ u. right u }
-  where
-    left : (u : View) → HaveOneOwner (Shown new more) u → HaveOneOwner (Shown old messages) u
-    left (Admitted _ _ taken) h = one_is_left old new taken same h
-    left (Shown other _) h = one_left old new other same h
-    left (Witnessed _) h = h
-    left (Sent _) h = h
-    left Spent h = h
-
-    right : (u : View) → HaveOneOwner u (Shown new more) → HaveOneOwner u (Shown old messages)
-    right (Admitted _ _ taken) h = one_is_left old new taken same h
-    right (Shown other _) h = one_right old new other same h
-    right (Witnessed _) h = h
-    right (Sent _) h = h
-    right Spent h = h
-
-pub admitted_heir : (nodes callers more_nodes more_callers : List ℕ) (taken : List Sight) → IsHeir (Admitted nodes callers taken) (Admitted more_nodes more_callers taken)
-admitted_heir nodes callers more_nodes more_callers taken = record { left = λ u. left u; right = λ u. right u }
-  where
-    left : (u : View) → HaveOneOwner (Admitted more_nodes more_callers taken) u → HaveOneOwner (Admitted nodes callers taken) u
-    left (Admitted _ _ _) h = h
-    left (Shown _ _) h = h
-    left (Witnessed _) h = h
-    left (Sent _) h = h
-    left Spent h = h
-
-    right : (u : View) → HaveOneOwner u (Admitted more_nodes more_callers taken) → HaveOneOwner u (Admitted nodes callers taken)
-    right (Admitted _ _ _) h = h
-    right (Shown _ _) h = h
-    right (Witnessed _) h = h
-    right (Sent _) h = h
-    right Spent h = h
+use Rattle.chord_table.specs.Scenes.{Scene, Lived, Agrees, RingEffect, is_among}
+use Rattle.chord_table.specs.Seen.{Actor, OfNode, OfCaller, Sight, Known, View, Admitted, Shown, Together, Witnessed, Sent, Standing, Spent}
+use Rattle.chord_table.specs.Views.{OneIs, IsSeenIn, IsStanding, IsTrueOf, HaveOneOwner, Shows, KeepsPlace}
 
 -- ---- an event
 
-all_sent_after : (world : World) (new : Actor) (sent : Option Message) (call : Option Done) (messages : List Message)
+-- the scene after an event, with this ring
+abbrev pub scene_after : Scene → Actor → Option Message → Option Done → Ring → Scene
+scene_after scene new sent call ring = record { world = world_after scene.world new sent call; crashed = scene.crashed; premise = scene.premise; ring = ring }
+
+pub all_sent_after : (world : World) (new : Actor) (sent : Option Message) (call : Option Done) (messages : List Message)
     → All (Contains world.sent) messages → All (Contains (world_after world new sent call).sent) messages
 all_sent_after world new sent call messages all =
     All-weaker (Contains world.sent) (Contains (world_after world new sent call).sent) (λ m. sent_after world new sent call m) messages all
 
+-- the sight of another actor stays true
+pub seen_after : (scene : Scene) (old new : Actor) (sent : Option Message) (call : Option Done) (ring : Ring) (sight : Sight) → AreOne old new → (AreOne sight.actor old → ⊥)
+    → IsSeenIn scene sight → IsSeenIn (scene_after scene new sent call ring) sight
+seen_after scene old new sent call ring sight same apart ((there, all), standing) = (
+  (others_after scene.world new sight.actor sent call (λ one. apart (one_right old new sight.actor same one)) there, all_sent_after scene.world new sent call sight.messages all),
+  standing,
+)
+
 -- the sights of other actors whose seats were taken in stay true
-all_seen_after : (world : World) (old new : Actor) (sent : Option Message) (call : Option Done) (taken : List Sight) → AreOne old new → (OneIs taken old → ⊥)
-    → All (IsSeen world) taken → All (IsSeen (world_after world new sent call)) taken
-all_seen_after world old new sent call [] same apart all = All-nil (IsSeen (world_after world new sent call))
-all_seen_after world old new sent call (sight ∷ rest) same apart all =
-    let first = All-head (IsSeen world) sight rest all in
-    All-cons (IsSeen (world_after world new sent call)) sight rest
-    (others_after world new sight.actor sent call (λ one. apart (inl (one_right old new sight.actor same one))) first.0, all_sent_after world new sent call sight.messages first.1)
-    (all_seen_after world old new sent call rest same (λ one. apart (inr one)) (All-tail (IsSeen world) sight rest all))
+pub all_seen_after : (scene : Scene) (old new : Actor) (sent : Option Message) (call : Option Done) (ring : Ring) (taken : List Sight) → AreOne old new → (OneIs taken old → ⊥)
+    → All (IsSeenIn scene) taken → All (IsSeenIn (scene_after scene new sent call ring)) taken
+all_seen_after scene old new sent call ring [] same apart all = All-nil (IsSeenIn (scene_after scene new sent call ring))
+all_seen_after scene old new sent call ring (sight ∷ rest) same apart all =
+    All-cons (IsSeenIn (scene_after scene new sent call ring)) sight rest
+    (seen_after scene old new sent call ring sight same (λ one. apart (inl one)) (All-head (IsSeenIn scene) sight rest all))
+    (all_seen_after scene old new sent call ring rest same (λ one. apart (inr one)) (All-tail (IsSeenIn scene) sight rest all))
 
 -- each view stays true after an event, except those of its actor
-true_after : (world : World) (old new : Actor) (messages : List Message) (sent : Option Message) (call : Option Done) → AreOne old new → GoesOn old new → IsThere world old
-    → (u : View) → (HaveOneOwner u (Shown old messages) → ⊥) → IsTrueOf world u → IsTrueOf (world_after world new sent call) u
-true_after world old new messages sent call same on here (Admitted nodes callers taken) apart (n, c, differ, all) =
-    (nodes_after world new sent call ∙ n, callers_after world new sent call ∙ c, differ, all_seen_after world old new sent call taken same apart all)
-true_after world old new messages sent call same on here (Shown other more) apart (there, all) =
-    (others_after world new other sent call (λ one. apart (one_right old new other same one)) there, all_sent_after world new sent call more all)
-true_after world old new messages sent call same on here (Witnessed callers) apart were =
-    All-weaker (WasThere world) (WasThere (world_after world new sent call)) (λ c. was_there_after world old new sent call same on here c) callers were
-true_after world old new messages sent call same on here (Sent message) apart was = sent_after world new sent call message was
-true_after world old new messages sent call same on here Spent apart h = tt
+pub true_after : (scene : Scene) (old new : Actor) (messages : List Message) (sent : Option Message) (call : Option Done) (ring : Ring) → ring.ids ≡ scene.ring.ids → Stays scene.premise scene.ring ring → AreOne old new → GoesOn old new → IsThere scene.world old
+    → (u : View) → (HaveOneOwner u (Shown old messages) → ⊥) → IsTrueOf scene u → IsTrueOf (scene_after scene new sent call ring) u
+true_after scene old new messages sent call ring named stays same on here (Admitted nodes callers known taken) apart (n, c, i, differ, all) =
+    (nodes_after scene.world new sent call ∙ n, callers_after scene.world new sent call ∙ c, knows_on scene (scene_after scene new sent call ring) known named refl stays i, differ, all_seen_after scene old new sent call ring taken same apart all)
+true_after scene old new messages sent call ring named stays same on here (Shown other more) apart seen =
+    seen_after scene old new sent call ring (record { actor = other; messages = more }) same apart seen
+true_after scene old new messages sent call ring named stays same on here (Together sights) apart (differ, all) =
+    (differ, all_seen_after scene old new sent call ring sights same apart all)
+true_after scene old new messages sent call ring named stays same on here (Witnessed callers) apart were =
+    All-weaker (WasThere scene.world) (WasThere (world_after scene.world new sent call)) (λ c. was_there_after scene.world old new sent call same on here c) callers were
+true_after scene old new messages sent call ring named stays same on here (Sent message) apart was = sent_after scene.world new sent call message was
+true_after scene old new messages sent call ring named stays same on here (Standing number) apart h = stays number h
+true_after scene old new messages sent call ring named stays same on here Spent apart h = tt
 
 known_was_sent : (world : World) (messages : List Message) (taken : Option Message) → All (Contains world.sent) messages → WasSent messages taken → WasSent world.sent taken
 known_was_sent world messages None all known = known
 known_was_sent world messages (Some message) all known = All-contains (Contains world.sent) messages message all known
 
--- an event of the actor that a seat shows is a step of the world, and the seats show the new world
-pub event_shown : (world : World) (views : List View) (id : ℕ) (old new : Actor) (messages : List Message) (taken sent : Option Message) (call : Option Done)
-    → Shows world views → get_elem? views id ≡ some (Shown old messages) → WasSent messages taken → Event old taken new sent call
-    → WorldStep world (world_after world new sent call) × Shows (world_after world new sent call) (set views id (Shown new messages))
-event_shown world views id old new messages taken sent call shows at known event =
-    let mine = shows.agrees id (Shown old messages) at in
-    let same = one_actor old new taken sent call event in (
-      event_steps world old new taken sent call mine.0 (known_was_sent world messages taken mine.1 known) event,
-      shows_changed world (world_after world new sent call) views id (Shown old messages) (Shown new messages) shows at (shown_heir old new messages messages same)
-          (there_after world old new sent call same mine.0, all_sent_after world new sent call messages mine.1)
-          (λ seat u apart e. true_after world old new messages sent call same (event_goes_on old new taken sent call event) mine.0 u (λ one. apart (shows.apart seat id u (Shown old messages) e at one)) (shows.agrees seat u e)),
+-- an event leaves whether its actor crashed
+pub standing_after : (crashed : List ℕ) (old new : Actor) (taken sent : Option Message) (call : Option Done) → Event old taken new sent call → IsStanding crashed old → IsStanding crashed new
+standing_after crashed _ _ _ _ _ (Event.Acts {old = old} {new = new} {crashed = out} {taken = taken} {sent = sent} {done = call} step) standing =
+    subst (λ n. is_among n crashed ≡ out) (one_actor (OfNode old out) (OfNode new out) taken sent call (Event.Acts step)) standing
+standing_after crashed _ _ _ _ _ (Event.Calls step) standing = tt
+
+-- the ring has the same of the actor
+agrees_after : (scene : Scene) (old new : Actor) (taken sent : Option Message) (call : Option Done) → Event old taken new sent call → KeepsPlace old new → IsThere scene.world old
+    → IsStanding scene.crashed old → Agrees scene → Agrees (scene_after scene new sent call scene.ring)
+agrees_after scene _ _ _ _ _ (Event.Acts {old = old} {new = new} {crashed = out} {taken = taken} {sent = sent} {done = call} step) keeps there standing agrees =
+    let same : old.number ≡ new.number = one_actor (OfNode old out) (OfNode new out) taken sent call (Event.Acts step) in
+    agrees_kept scene.world scene.crashed scene.ring scene.premise old new (world_after scene.world (OfNode new out) sent call) agrees
+    (subst (λ n. node_at n scene.world.nodes ≡ Some old) same there) refl (sym same) out standing keeps
+agrees_after scene _ _ _ _ _ (Event.Calls step) keeps there standing agrees =
+    record { members = agrees.members; counted = agrees.counted; named = agrees.named; known = agrees.known }
+
+-- an event of the actor that a seat shows is a step of the world, and the seats show the new scene
+pub event_shown : (scene : Scene) (views : List View) (id : ℕ) (old new : Actor) (messages : List Message) (taken sent : Option Message) (call : Option Done)
+    → Lived scene → Agrees scene → Shows scene views → get_elem? views id ≡ some (Shown old messages) → WasSent messages taken → Event old taken new sent call → KeepsPlace old new
+    → Lived (scene_after scene new sent call scene.ring) × Agrees (scene_after scene new sent call scene.ring) × Shows (scene_after scene new sent call scene.ring) (set views id (Shown new messages))
+event_shown scene views id old new messages taken sent call lived agrees shows at known event keeps =
+    let ((there, all), standing) = shows.agrees id (Shown old messages) at in
+    let same = one_actor old new taken sent call event in
+    let after = agrees_after scene old new taken sent call event keeps there standing agrees in (
+      Lived.Goes_on lived (event_steps scene.world old new taken sent call there (known_was_sent scene.world messages taken all known) event) refl refl RingEffect.Same after,
+      after,
+      shows_changed scene (scene_after scene new sent call scene.ring) views id (Shown old messages) (Shown new messages) shows at (shown_heir old new messages messages same)
+          ((there_after scene.world old new sent call same there, all_sent_after scene.world new sent call messages all), standing_after scene.crashed old new taken sent call event standing)
+          (λ seat u apart e. true_after scene old new messages sent call scene.ring refl (λ number stands. stands) same (event_goes_on old new taken sent call event) there u (λ one. apart (shows.apart seat id u (Shown old messages) e at one)) (shows.agrees seat u e)),
     )
 
 -- ---- a new actor
 
+-- the scene with one actor more, and this ring
+abbrev pub scene_with : Scene → Actor → Ring → Scene
+scene_with scene new ring = record { world = world_with scene.world new; crashed = scene.crashed; premise = scene.premise; ring = ring }
+
+pub seen_entered : (scene : Scene) (new : Actor) (ring : Ring) (sight : Sight) → IsNew scene.world new → IsSeenIn scene sight → IsSeenIn (scene_with scene new ring) sight
+seen_entered scene (OfNode new out) ring sight none ((there, all), standing) = ((others_entered scene.world (OfNode new out) sight.actor none there, all), standing)
+seen_entered scene (OfCaller new) ring sight none ((there, all), standing) = ((others_entered scene.world (OfCaller new) sight.actor none there, all), standing)
+
+pub all_seen_entered : (scene : Scene) (new : Actor) (ring : Ring) (taken : List Sight) → IsNew scene.world new → All (IsSeenIn scene) taken → All (IsSeenIn (scene_with scene new ring)) taken
+all_seen_entered scene new ring taken none all = All-weaker (IsSeenIn scene) (IsSeenIn (scene_with scene new ring)) (λ sight. seen_entered scene new ring sight none) taken all
+
 -- each view stays true after an actor was admitted, except the registrar's
-pub true_entered : (world : World) (new : Actor) (nodes callers : List ℕ) → IsNew world new
-    → (u : View) → (HaveOneOwner u (Admitted nodes callers []) → ⊥) → IsTrueOf world u → IsTrueOf (world_with world new) u
-true_entered world new nodes callers none (Admitted _ _ _) apart h = absurd (apart tt)
-true_entered world (OfNode new) nodes callers none (Shown other messages) apart (there, all) = (others_entered world (OfNode new) other none there, all)
-true_entered world (OfCaller new) nodes callers none (Shown other messages) apart (there, all) = (others_entered world (OfCaller new) other none there, all)
-true_entered world new nodes callers none (Witnessed others) apart were =
-    All-weaker (WasThere world) (WasThere (world_with world new)) (λ c. was_there_entered world new c) others were
-true_entered world (OfNode new) nodes callers none (Sent message) apart was = was
-true_entered world (OfCaller new) nodes callers none (Sent message) apart was = was
-true_entered world new nodes callers none Spent apart h = tt
+pub true_entered : (scene : Scene) (new : Actor) (ring : Ring) (nodes callers : List ℕ) (known : Known) (taken : List Sight) → IsNew scene.world new → Stays scene.premise scene.ring ring
+    → (u : View) → (HaveOneOwner u (Admitted nodes callers known taken) → ⊥) → IsTrueOf scene u → IsTrueOf (scene_with scene new ring) u
+true_entered scene new ring nodes callers known taken none stays (Admitted _ _ _ _) apart h = absurd (apart tt)
+true_entered scene new ring nodes callers known taken none stays (Shown other messages) apart seen = seen_entered scene new ring (record { actor = other; messages = messages }) none seen
+true_entered scene new ring nodes callers known taken none stays (Together sights) apart (differ, all) = (differ, all_seen_entered scene new ring sights none all)
+true_entered scene new ring nodes callers known taken none stays (Witnessed others) apart were =
+    All-weaker (WasThere scene.world) (WasThere (world_with scene.world new)) (λ c. was_there_entered scene.world new c) others were
+true_entered scene (OfNode new out) ring nodes callers known taken none stays (Sent message) apart was = was
+true_entered scene (OfCaller new) ring nodes callers known taken none stays (Sent message) apart was = was
+true_entered scene new ring nodes callers known taken none stays (Standing number) apart h = stays number h
+true_entered scene new ring nodes callers known taken none stays Spent apart h = tt
 
 -- the registrar's view with the number of the new actor is true
 pub register_entered : (world : World) (nodes : List ℕ) (node : Node) → map (λ (n : Node). n.number) world.nodes ≡ nodes

@@ -1,23 +1,28 @@
 -- Each step of the table keeps its rule.
-use Rattle.std.proofs.Common.{◌≡◌, ◌≢◌, ℕ, ◌<◌, arith, List, [], ◌∷◌, ◌++◌, set, zero, suc, Option, Some, refl, sym, ap, ◌∙◌, subst, inl, inr, ⊎_elim, Contains, All}
-use Rattle.std.proofs.lemmas.List.Elements.{All-append, All-cons, All-push, All-nil, All-head, All-tail, Contains-push}
+use Rattle.std.proofs.Common.{◌≡◌, ◌≢◌, ℕ, true, false, ◌<◌, arith, List, [], ◌∷◌, ◌++◌, set, zero, suc, Option, None, Some, refl, sym, ap, ◌∙◌, subst, inl, inr, ⊎_elim, Contains, All}
+use Rattle.std.proofs.lemmas.List.Elements.{All-append, All-weaker, All-cons, All-push, All-nil, All-head, All-tail, Contains-push}
+use Rattle.std.proofs.lemmas.List.{get_or_past}
 use mathlib.Core.Option.{some, some-ne-none, some-injective}
 use lib.ListN.{get_elem?}
-use Rattle.atomic_table.specs.Table.{Me, keeps, opening, Allows, Enters, Splits, Joins}
+use Rattle.atomic_table.specs.Table.{Me, opening, Allows, Enters, Splits, Joins}
 use Rattle.chord_caller.specs.Caller.{Caller}
 use Rattle.atomic_table.proofs.Lists.{at_set, set_again}
 use Rattle.chord_model.specs.declared.message.Message.{Message}
-use Rattle.chord_model.specs.World.{World, empty_world}
-use Rattle.chord_model.specs.World.Run.{Stays, Goes_on}
-use Rattle.chord_table.proofs.Events.{shown_heir, admitted_heir, event_shown, true_entered, register_entered, callers_entered}
+use Rattle.atomic_table.specs.Table.{keeps as keeps_slots}
+use Rattle.chord_model.specs.World.{World, node_at}
+use Rattle.chord_ring.specs.Steps.{Ring}
+use Rattle.chord_table.proofs.Events.{scene_after, scene_with, event_shown, true_entered, all_seen_entered, register_entered, callers_entered}
 use Rattle.chord_table.proofs.Later.{later_itself}
 use Rattle.chord_table.proofs.Numbers.{same_word}
+use Rattle.chord_table.proofs.Owning.{itself, turned, shown_heir, registrar_heir}
+use Rattle.chord_table.proofs.Stays.{Stays, effect_stays, knows_on}
 use Rattle.chord_table.proofs.Showing.{IsHeir, shows_changed, shows_added}
-use Rattle.chord_table.proofs.Worlds.{IsNew, new_apart, there_entered, may_enter}
-use Rattle.chord_table.specs.Actors.{IsThere, AreOne, world_after, world_with}
+use Rattle.chord_table.proofs.Worlds.{IsNew, Comes, ids_with, new_apart, there_entered, may_enter, may_join}
+use Rattle.chord_table.specs.Actors.{world_after}
 use Rattle.chord_table.specs.Later.{WasThere}
-use Rattle.chord_table.specs.Seen.{Actor, OfNode, OfCaller, Sight, View, Admitted, Shown, Witnessed, Sent, Spent}
-use Rattle.chord_table.specs.Views.{TableId, Name, word_of, sight_of, OneIs, IsSeen, IsTrueOf, HaveOneOwner, Shows, IsKept, IsTrueOfSome, view_of, Register, with_actor, with_admitted, with_message, testimony, joined_witnesses, MayBecome, MayEnter}
+use Rattle.chord_table.specs.Scenes.{Scene, Lived, Agrees, empty_scene, no_ring}
+use Rattle.chord_table.specs.Seen.{Actor, OfNode, OfCaller, Sight, View, Admitted, Shown, Together, Witnessed, Sent, Standing, Spent}
+use Rattle.chord_table.specs.Views.{TableId, Name, word_of, sight_of, OneIs, IsSeenIn, IsTrueOf, HaveOneOwner, Shows, IsKept, IsTrueOfSome, view_of, Register, Assembled, view_of_assembled, with_actor, with_admitted, with_message, testimony, joined_witnesses, MayBecome, MayEnter, MayJoinBehind, known_as, known_in, Stands}
 
 -- a table with a word has more than 0 words
 pub some_words : {word words : ℕ} → word < words → 0 < words
@@ -32,7 +37,7 @@ pub shown_true : {v w : View} {me : Me ℕ View} → me ≡ (v, []) → v ≡ w 
 shown_true is same true_of = subst (λ (u : View). IsTrueOfSome u) (ap (λ (m : Me ℕ View). m.0) is ∙ same) true_of
 
 -- after an event the seat shows the actor's new state and has the same word
-still_seated : (name : Name) (word : ℕ) (old next : Me ℕ View) (s : Sight) (new : Actor) → old ≡ (view_of s, []) → next ≡ (with_actor new old.0, old.1)
+pub still_seated : (name : Name) (word : ℕ) (old next : Me ℕ View) (s : Sight) (new : Actor) → old ≡ (view_of s, []) → next ≡ (with_actor new old.0, old.1)
     → word ≡ word_of name s.actor → word_of name s.actor ≡ word_of name new
     → (next ≡ (view_of (sight_of next.0), [])) × (word ≡ word_of name (sight_of next.0).actor)
 still_seated name word old next s new is becomes at same =
@@ -41,132 +46,176 @@ still_seated name word old next s new is becomes at same =
 
 pub seated_after : (name : Name) (word : ℕ) (old next : Me ℕ View) (s : Sight) (new : Actor) (sent : Option Message) → old ≡ (view_of s, []) → next ≡ (with_actor new old.0, old.1)
     → word ≡ word_of name s.actor → MayBecome s.actor s.messages new sent → (next ≡ (view_of (sight_of next.0), [])) × (word ≡ word_of name (sight_of next.0).actor)
-seated_after name word old next s new sent is becomes at (taken, call, known, event) =
+seated_after name word old next s new sent is becomes at (taken, call, known, event, keeps) =
     still_seated name word old next s new is becomes at (same_word name s.actor new taken sent call event)
 
--- the registrar's seat alone shows the empty world
-pub begins : (words : List ℕ) → IsKept (opening words [] (Admitted [] [] []))
-begins words = (empty_world, Stays, record { agrees = agrees; apart = apart })
+no_nodes : Agrees empty_scene
+unfolding node_at
+no_nodes = record { members = λ number. get_or_past [] number None (omega arith); counted = refl; named = refl; known = λ number none. refl }
+
+-- the registrar's seat alone shows the empty scene
+pub begins : (words : List ℕ) → IsKept (opening words [] (Admitted [] [] (known_as [] true []) []))
+begins words = (empty_scene, Lived.Begins, no_nodes, record { agrees = agrees; apart = apart })
   where
-    agrees : (seat : ℕ) (v : View) → get_elem? (Admitted [] [] [] ∷ []) seat ≡ some v → IsTrueOf empty_world v
-    agrees zero v e = subst (IsTrueOf empty_world) (some-injective (Admitted [] [] []) v e) (refl, refl, tt, All-nil (IsSeen empty_world))
+    agrees : (seat : ℕ) (v : View) → get_elem? (Admitted [] [] (known_as [] true []) [] ∷ []) seat ≡ some v → IsTrueOf empty_scene v
+    agrees zero v e = subst (IsTrueOf empty_scene) (some-injective (Admitted [] [] (known_as [] true []) []) v e) (refl, refl, record { ids = refl; premise = refl; principals = All-nil (Stands true no_ring) }, tt, All-nil (IsSeenIn empty_scene))
     agrees (suc seat) v e = absurd (some-ne-none v (sym e))
 
-    apart : (seat other : ℕ) (v u : View) → get_elem? (Admitted [] [] [] ∷ []) seat ≡ some v → get_elem? (Admitted [] [] [] ∷ []) other ≡ some u → HaveOneOwner v u → seat ≡ other
+    apart : (seat other : ℕ) (v u : View) → get_elem? (Admitted [] [] (known_as [] true []) [] ∷ []) seat ≡ some v → get_elem? (Admitted [] [] (known_as [] true []) [] ∷ []) other ≡ some u → HaveOneOwner v u → seat ≡ other
     apart zero zero v u e f one = refl
     apart zero (suc other) v u e f one = absurd (some-ne-none u (sym f))
     apart (suc seat) other v u e f one = absurd (some-ne-none v (sym e))
 
 nobodys : (message : Message) (u : View) → HaveOneOwner u (Sent message) → ⊥
-nobodys message (Admitted _ _ _) h = h
+nobodys message (Admitted _ _ _ _) h = h
 nobodys message (Shown _ _) h = h
+nobodys message (Together _) h = h
 nobodys message (Witnessed _) h = h
 nobodys message (Sent _) h = h
+nobodys message (Standing _) h = h
 nobodys message Spent h = h
 
 pub spent_has_none : (u : View) → HaveOneOwner u Spent → ⊥
-spent_has_none (Admitted _ _ _) h = h
+spent_has_none (Admitted _ _ _ _) h = h
 spent_has_none (Shown _ _) h = h
+spent_has_none (Together _) h = h
 spent_has_none (Witnessed _) h = h
 spent_has_none (Sent _) h = h
+spent_has_none (Standing _) h = h
 spent_has_none Spent h = h
 
 witness_has_none : (callers : List Caller) (u : View) → HaveOneOwner u (Witnessed callers) → ⊥
-witness_has_none callers (Admitted _ _ _) h = h
+witness_has_none callers (Admitted _ _ _ _) h = h
 witness_has_none callers (Shown _ _) h = h
+witness_has_none callers (Together _) h = h
 witness_has_none callers (Witnessed _) h = h
 witness_has_none callers (Sent _) h = h
+witness_has_none callers (Standing _) h = h
 witness_has_none callers Spent h = h
 
 -- an event that sends nothing, or whose message is lost, at any word
 pub local_as : (slots id word : ℕ) (me : Me ℕ View) (s : Sight) (new : Actor) (f : ℕ → ℕ) → me ≡ (view_of s, []) → (sent : Option Message) × MayBecome s.actor s.messages new sent
     → Allows IsKept slots id me word f (λ found m. m ≡ (with_actor new me.0, me.1))
-local_as slots id word me s new f is (sent, (taken, call, known, event)) =
+local_as slots id word me s new f is (sent, (taken, call, known, event, keeps)) =
     subst (λ (m : Me ℕ View). Allows IsKept slots id m word f (λ found w. w ≡ (with_actor new m.0, m.1))) (sym is) allowed
   where
     allowed : Allows IsKept slots id (view_of s, []) word f (λ found w. w ≡ (Shown new s.messages, []))
-    allowed t (world, reached, shows) len at fits =
-        let next = event_shown world t.views id s.actor new s.messages taken sent call shows at known event in
-        (Shown new s.messages, keeps, tt, (world_after world new sent call, Goes_on reached next.0, next.1), refl)
+    allowed t (scene, lived, agrees, shows) len at fits =
+        let next = event_shown scene t.views id s.actor new s.messages taken sent call lived agrees shows at known event keeps in
+        (Shown new s.messages, keeps_slots, tt, (scene_after scene new sent call scene.ring, next.0, next.1, next.2), refl)
 
 -- an event whose message gets a new seat
 pub send_as : (id : ℕ) (me : Me ℕ View) (s : Sight) (new : Actor) (message : Message) → me ≡ (view_of s, []) → MayBecome s.actor s.messages new (Some message)
     → Splits IsKept id me.0 (with_actor new me.0) (Sent message)
-send_as id me s new message is (taken, call, known, event) =
+send_as id me s new message is (taken, call, known, event, keeps) =
     subst (λ (m : Me ℕ View). Splits IsKept id m.0 (with_actor new m.0) (Sent message)) (sym is) allowed
   where
     was_sent : (world : World) (actor : Actor) → Contains (world_after world actor (Some message) call).sent message
-    was_sent world (OfNode node) = Contains-push world.sent message
+    was_sent world (OfNode node out) = Contains-push world.sent message
     was_sent world (OfCaller caller) = Contains-push world.sent message
 
     allowed : Splits IsKept id (view_of s) (Shown new s.messages) (Sent message)
-    allowed t (world, reached, shows) at =
-        let next = event_shown world t.views id s.actor new s.messages taken (Some message) call shows at known event in (
-          world_after world new (Some message) call,
-          Goes_on reached next.0,
-          shows_added (world_after world new (Some message) call) (set t.views id (Shown new s.messages)) (Sent message) next.1 (was_sent world new) (λ seat u e. (nobodys message u, λ h. h)),
+    allowed t (scene, lived, agrees, shows) at =
+        let next = event_shown scene t.views id s.actor new s.messages taken (Some message) call lived agrees shows at known event keeps in (
+          scene_after scene new (Some message) call scene.ring,
+          next.0,
+          next.1,
+          shows_added (scene_after scene new (Some message) call scene.ring) (set t.views id (Shown new s.messages)) (Sent message) next.2 (was_sent scene.world new) (λ seat u e. (nobodys message u, λ h. h)),
         )
 
 -- the world has no actor with the number of a new one
-none_is_new : (world : World) (new : Actor) → IsNew world new → (taken : List Sight) → All (IsSeen world) taken → OneIs taken new → ⊥
-none_is_new world new none [] all h = h
-none_is_new world new none (sight ∷ rest) all (inl h) = new_apart world new sight.actor none (All-head (IsSeen world) sight rest all).0 h
-none_is_new world new none (sight ∷ rest) all (inr h) = none_is_new world new none rest (All-tail (IsSeen world) sight rest all) h
+none_is_new : (scene : Scene) (new : Actor) → IsNew scene.world new → (taken : List Sight) → All (IsSeenIn scene) taken → OneIs taken new → ⊥
+none_is_new scene new none [] all h = h
+none_is_new scene new none (sight ∷ rest) all (inl h) = new_apart scene.world new sight.actor none (All-head (IsSeenIn scene) sight rest all).0.0 h
+none_is_new scene new none (sight ∷ rest) all (inr h) = none_is_new scene new none rest (All-tail (IsSeenIn scene) sight rest all) h
 
--- a new actor gets a new seat
-pub admit_as : (id : ℕ) (new : Actor) (me : Me ℕ View) (register : Register) → me ≡ (Admitted register.nodes register.callers [], []) → MayEnter register new
+-- a view that is true has no owner with the number of a new actor
+pub not_there : (scene : Scene) (new : Actor) (messages : List Message) → IsNew scene.world new → (u : View) → IsTrueOf scene u
+    → (HaveOneOwner u (Shown new messages) → ⊥) × (HaveOneOwner (Shown new messages) u → ⊥)
+not_there scene new messages none (Admitted _ _ _ taken) (nodes, callers, named, differ, all) = (none_is_new scene new none taken all, none_is_new scene new none taken all)
+not_there scene new messages none (Shown other _) h = (new_apart scene.world new other none h.0.0, (λ one. new_apart scene.world new other none h.0.0 (turned new other one)))
+not_there scene new messages none (Together sights) (differ, all) = (none_is_new scene new none sights all, none_is_new scene new none sights all)
+not_there scene new messages none (Witnessed _) h = ((λ x. x), (λ x. x))
+not_there scene new messages none (Sent _) h = ((λ x. x), (λ x. x))
+not_there scene new messages none (Standing _) h = ((λ x. x), (λ x. x))
+not_there scene new messages none Spent h = ((λ x. x), (λ x. x))
+
+-- an actor that enters gets a new seat
+enter_as : (id : ℕ) (new : Actor) (me : Me ℕ View) (a : Assembled) → me ≡ (view_of_assembled a, []) → ((scene : Scene) → Agrees scene → IsTrueOf scene (view_of_assembled a) → Comes scene new)
     → Splits IsKept id me.0 (with_admitted new me.0) (Shown new [])
-admit_as id new me register is may =
+enter_as id new me a is may =
     subst (λ (m : Me ℕ View). Splits IsKept id m.0 (with_admitted new m.0) (Shown new [])) (sym is) allowed
   where
+    register : Register
+    register = a.register
+
     old_view : View
-    old_view = Admitted register.nodes register.callers []
+    old_view = view_of_assembled a
 
-    listed : (world : World) (actor : Actor) → IsTrueOf world old_view → IsTrueOf (world_with world actor) (with_admitted actor old_view)
-    listed world (OfNode node) (nodes, callers, differ, others) = (register_entered world register.nodes node nodes, callers, tt, All-nil (IsSeen (world_with world (OfNode node))))
-    listed world (OfCaller caller) (nodes, callers, differ, others) = (nodes, callers_entered world register.callers caller callers, tt, All-nil (IsSeen (world_with world (OfCaller caller))))
+    listed : (scene : Scene) (actor : Actor) (ring : Ring) → IsNew scene.world actor → ring.ids ≡ ids_with actor scene.ring.ids → Stays scene.premise scene.ring ring → IsTrueOf scene old_view
+        → IsTrueOf (scene_with scene actor ring) (with_admitted actor old_view)
+    listed scene (OfNode node out) ring none names stays (nodes, callers, named, differ, others) =
+        (register_entered scene.world register.nodes node nodes, callers, record { ids = names ∙ ap (λ ids. ids ++ node.links.me.id.number ∷ []) named.ids; premise = named.premise; principals = All-weaker (Stands scene.premise scene.ring) (Stands scene.premise ring) stays register.principals named.principals }, differ, all_seen_entered scene (OfNode node out) ring a.taken none others)
+    listed scene (OfCaller caller) ring none names stays (nodes, callers, named, differ, others) =
+        (nodes, callers_entered scene.world register.callers caller callers, knows_on scene (scene_with scene (OfCaller caller) ring) (known_in register) names refl stays named, differ, all_seen_entered scene (OfCaller caller) ring a.taken none others)
 
-    not_there : (world : World) → IsNew world new → (u : View) → IsTrueOf world u → (HaveOneOwner u (Shown new []) → ⊥) × (HaveOneOwner (Shown new []) u → ⊥)
-    not_there world none (Admitted _ _ taken) (nodes, callers, differ, all) = (none_is_new world new none taken all, none_is_new world new none taken all)
-    not_there world none (Shown other _) h = (new_apart world new other none h.0, (λ one. new_apart world new other none h.0 (turned new other one)))
-      where
-        turned : (a b : Actor) → AreOne a b → AreOne b a
-        turned (OfNode a) (OfNode b) one = sym one
-        turned (OfCaller a) (OfCaller b) one = sym one
-        turned (OfNode a) (OfCaller b) one = one
-        turned (OfCaller a) (OfNode b) one = one
-    not_there world none (Witnessed _) h = ((λ x. x), (λ x. x))
-    not_there world none (Sent _) h = ((λ x. x), (λ x. x))
-    not_there world none Spent h = ((λ x. x), (λ x. x))
+    no_actors : (actor : Actor) → (OneIs a.taken new → ⊥) → (HaveOneOwner (with_admitted actor old_view) (Shown new []) → ⊥) × (HaveOneOwner (Shown new []) (with_admitted actor old_view) → ⊥)
+    no_actors (OfNode node out) none = (none, none)
+    no_actors (OfCaller caller) none = (none, none)
 
-    no_actors : (actor : Actor) → (HaveOneOwner (with_admitted actor old_view) (Shown new []) → ⊥) × (HaveOneOwner (Shown new []) (with_admitted actor old_view) → ⊥)
-    no_actors (OfNode node) = ((λ h. h), (λ h. h))
-    no_actors (OfCaller caller) = ((λ h. h), (λ h. h))
-
-    alone : (views : List View) (world : World) → IsNew world new → Shows world views → (seat : ℕ) (u : View) → get_elem? (set views id (with_admitted new old_view)) seat ≡ some u
+    alone : (views : List View) (scene : Scene) → IsNew scene.world new → Shows scene views → (OneIs a.taken new → ⊥) → (seat : ℕ) (u : View) → get_elem? (set views id (with_admitted new old_view)) seat ≡ some u
         → (HaveOneOwner u (Shown new []) → ⊥) × (HaveOneOwner (Shown new []) u → ⊥)
-    alone views world none shows seat u e = ⊎_elim
-        (λ (x : (seat ≡ id) × (with_admitted new old_view ≡ u)). subst (λ (v : View). (HaveOneOwner v (Shown new []) → ⊥) × (HaveOneOwner (Shown new []) v → ⊥)) x.1 (no_actors new))
-        (λ (x : (seat ≢ id) × (get_elem? views seat ≡ some u)). not_there world none u (shows.agrees seat u x.1))
+    alone views scene none shows untaken seat u e = ⊎_elim
+        (λ (x : (seat ≡ id) × (with_admitted new old_view ≡ u)). subst (λ (v : View). (HaveOneOwner v (Shown new []) → ⊥) × (HaveOneOwner (Shown new []) v → ⊥)) x.1 (no_actors new untaken))
+        (λ (x : (seat ≢ id) × (get_elem? views seat ≡ some u)). not_there scene new [] none u (shows.agrees seat u x.1))
         (at_set views id seat (with_admitted new old_view) u e)
 
     heir : (actor : Actor) → IsHeir old_view (with_admitted actor old_view)
-    heir (OfNode node) = admitted_heir register.nodes register.callers (register.nodes ++ node.number ∷ []) register.callers []
-    heir (OfCaller caller) = admitted_heir register.nodes register.callers register.nodes (register.callers ++ caller.number ∷ []) []
-
-    no_message : (world : World) (actor : Actor) → IsThere (world_with world actor) actor → IsTrueOf (world_with world actor) (Shown actor [])
-    no_message world actor there = (there, All-nil (Contains (world_with world actor).sent))
+    heir (OfNode node out) = registrar_heir register.nodes register.callers (known_in register) a.taken
+        (register.nodes ++ node.number ∷ []) register.callers
+        (known_as (register.ids ++ node.links.me.id.number ∷ []) register.premise register.principals)
+        a.taken (λ actor one. one)
+    heir (OfCaller caller) = registrar_heir register.nodes register.callers (known_in register) a.taken
+        register.nodes (register.callers ++ caller.number ∷ []) (known_in register) a.taken (λ actor one. one)
 
     allowed : Splits IsKept id old_view (with_admitted new old_view) (Shown new [])
-    allowed s (world, reached, shows) at =
-        let next : World = world_with world new in
+    allowed s (scene, lived, agrees, shows) at =
         let true = shows.agrees id old_view at in
-        let (none, step) = may_enter world register new true may in
-        let all = shows_changed world next s.views id old_view (with_admitted new old_view) shows at (heir new) (listed world new true)
-        (λ seat u apart e. true_entered world new register.nodes register.callers none u (λ one. apart (shows.apart seat id u old_view e at one)) (shows.agrees seat u e)) in
-        (next, Goes_on reached step, shows_added next (set s.views id (with_admitted new old_view)) (Shown new []) all (no_message world new (there_entered world new none)) (alone s.views world none shows))
+        let enters = may scene agrees true in
+        let ring = enters.ring in
+        let stays = effect_stays scene ring lived enters.effect in
+        let next : Scene = scene_with scene new ring in
+        let (nodes, callers, named, differ, taken) = true in
+        let untaken = none_is_new scene new enters.none a.taken taken in
+        let all = shows_changed scene next s.views id old_view (with_admitted new old_view) shows at (heir new) (listed scene new ring enters.none enters.named stays true)
+        (λ seat u apart e. true_entered scene new ring register.nodes register.callers (known_in register) a.taken enters.none stays u (λ one. apart (shows.apart seat id u old_view e at one)) (shows.agrees seat u e)) in (
+          next,
+          Lived.Goes_on lived enters.step refl refl enters.effect enters.agrees,
+          enters.agrees,
+          shows_added next (set s.views id (with_admitted new old_view)) (Shown new []) all
+              ((there_entered scene.world new enters.none, All-nil (Contains next.world.sent)), enters.standing) (alone s.views scene enters.none shows untaken),
+        )
 
-spends : (other : ℕ) (w : World) (views : List View) → Shows w views → Shows w (set views other Spent)
+-- a new actor gets a new seat
+pub admit_as : (id : ℕ) (new : Actor) (me : Me ℕ View) (a : Assembled) → me ≡ (view_of_assembled a, [])
+    → MayEnter a.register new → Splits IsKept id me.0 (with_admitted new me.0) (Shown new [])
+admit_as id new me a is may =
+    enter_as id new me a is (λ scene agrees true. may_enter scene a new agrees true may)
+
+-- a node that joins behind the member whose seat was taken in gets a new seat
+pub join_as : (id : ℕ) (new : Actor) (me : Me ℕ View) (a : Assembled) → me ≡ (view_of_assembled a, []) → MayJoinBehind a new
+    → Splits IsKept id me.0 (with_admitted new me.0) (Shown new [])
+join_as id (OfCaller caller) me a is may = absurd may
+join_as id (OfNode node out) me a is (pred, messages, first, stands, may) =
+    enter_as id (OfNode node out) me a is (λ scene agrees true. enters scene agrees true)
+  where
+    enters : (scene : Scene) → Agrees scene → IsTrueOf scene (view_of_assembled a) → Comes scene (OfNode node out)
+    enters scene agrees (nodes, callers, named, differ, all) =
+        let sight : Sight = record { actor = OfNode pred false; messages = messages } in
+        let seen : IsSeenIn scene sight = All-head (IsSeenIn scene) sight [] (subst (λ (l : List Sight). All (IsSeenIn scene) l) first all) in
+        subst (λ gone. Comes scene (OfNode node gone)) (sym stands) (may_join scene a.register pred node messages agrees nodes named.ids seen may)
+
+pub spends : (other : ℕ) (w : Scene) (views : List View) → Shows w views → Shows w (set views other Spent)
 spends other w views shows = record {
   agrees = λ seat u e. ⊎_elim
       (λ (x : (seat ≡ other) × (Spent ≡ u)). subst (IsTrueOf w) x.1 tt)
@@ -193,12 +242,8 @@ pub receive_as : (id other : ℕ) (me you : Me ℕ View) (s : Sight) (message : 
     → Joins IsKept id me.0 other you.0 (with_message me.0 you.0) Spent
 receive_as id other me you s message is came = joins_as id other me you (view_of s) (Sent message) with_message is came allowed
   where
-    itself : (actor : Actor) → AreOne actor actor
-    itself (OfNode node) = refl
-    itself (OfCaller caller) = refl
-
     allowed : Joins IsKept id (view_of s) other (Sent message) (Shown s.actor (s.messages ++ message ∷ [])) Spent
-    allowed t (w, reached, shows) at apart there =
+    allowed t (w, lived, agrees, shows) at apart there =
         let both : View = Shown s.actor (s.messages ++ message ∷ []) in
         let mine = shows.agrees id (view_of s) at in
         let was_sent : IsTrueOf w (Sent message) = ⊎_elim
@@ -206,9 +251,9 @@ receive_as id other me you s message is came = joins_as id other me you (view_of
         (λ (x : (other ≢ id) × (get_elem? t.views other ≡ some (Sent message))). shows.agrees other (Sent message) x.1)
         (at_set t.views id other both (Sent message) there) in
         let first = shows_changed w w t.views id (view_of s) both shows at (shown_heir s.actor s.actor s.messages (s.messages ++ message ∷ []) (itself s.actor))
-        (mine.0, All-push (Contains w.sent) s.messages message mine.1 was_sent)
+        ((mine.0.0, All-push (Contains w.world.sent) s.messages message mine.0.1 was_sent), mine.1)
         (λ seat u _ e. shows.agrees seat u e) in
-        (w, reached, spends other w (set t.views id both) first)
+        (w, lived, agrees, spends other w (set t.views id both) first)
 
 -- a look at any word
 pub look_at : (slots id word : ℕ) (me : Me ℕ View) (v : View) (f : ℕ → ℕ) → me ≡ (v, [])
@@ -217,14 +262,14 @@ look_at slots id word me v f is =
     subst (λ (m : Me ℕ View). Allows IsKept slots id m word f (λ found w. (w ≡ m) × IsTrueOfSome m.0)) (sym is) allowed
   where
     allowed : Allows IsKept slots id (v, []) word f (λ found w. (w ≡ (v, [])) × IsTrueOfSome v)
-    allowed s (w, reached, shows) len at fits =
-        (v, keeps, tt, (w, reached, subst (Shows w) (sym (set_again s.views id v at)) shows), (refl, (w, reached, shows.agrees id v at)))
+    allowed s (w, lived, agrees, shows) len at fits =
+        (v, keeps_slots, tt, (w, lived, agrees, subst (Shows w) (sym (set_again s.views id v at)) shows), (refl, (w, lived, agrees, shows.agrees id v at)))
 
 -- a new witness of no caller gets a new seat
 pub attend_as : (slots word : ℕ) → Enters IsKept slots word (λ found w. ◌≡◌ {A = Me ℕ View} (w, []) (Witnessed [], []))
-attend_as slots word t (world, reached, shows) len fits = (
+attend_as slots word t (scene, lived, agrees, shows) len fits = (
   Witnessed [],
-  (world, reached, shows_added world t.views (Witnessed []) shows (All-nil (WasThere world)) (λ seat u e. (witness_has_none [] u, λ h. h))),
+  (scene, lived, agrees, shows_added scene t.views (Witnessed []) shows (All-nil (WasThere scene.world)) (λ seat u e. (witness_has_none [] u, λ h. h))),
   refl,
 )
 
@@ -240,13 +285,14 @@ testify_as id me s caller is calls =
     subst (λ (m : Me ℕ View). Splits IsKept id m.0 m.0 (testimony m.0)) (sym (is ∙ ap (λ actor. (Shown actor s.messages, [])) calls)) allowed
   where
     allowed : Splits IsKept id (Shown (OfCaller caller) s.messages) (Shown (OfCaller caller) s.messages) (Witnessed (caller ∷ []))
-    allowed t (world, reached, shows) at =
+    allowed t (scene, lived, agrees, shows) at =
         let view : View = Shown (OfCaller caller) s.messages in
         let mine = shows.agrees id view at in (
-          world,
-          reached,
-          shows_added world (set t.views id view) (Witnessed (caller ∷ [])) (subst (Shows world) (sym (set_again t.views id view at)) shows)
-              (All-cons (WasThere world) caller [] (caller, mine.0, later_itself caller) (All-nil (WasThere world)))
+          scene,
+          lived,
+          agrees,
+          shows_added scene (set t.views id view) (Witnessed (caller ∷ [])) (subst (Shows scene) (sym (set_again t.views id view at)) shows)
+              (All-cons (WasThere scene.world) caller [] (caller, mine.0.0, later_itself caller) (All-nil (WasThere scene.world)))
               (λ seat u e. (witness_has_none (caller ∷ []) u, λ h. h)),
         )
 
@@ -259,13 +305,13 @@ gather_as id other me you callers more is came = joins_as id other me you (Witne
     heir = record { left = λ u h. h; right = λ u h. absurd (witness_has_none (callers ++ more) u h) }
 
     allowed : Joins IsKept id (Witnessed callers) other (Witnessed more) (Witnessed (callers ++ more)) Spent
-    allowed t (w, reached, shows) at apart there =
+    allowed t (w, lived, agrees, shows) at apart there =
         let both : View = Witnessed (callers ++ more) in
-        let others : All (WasThere w) more = ⊎_elim
+        let others : All (WasThere w.world) more = ⊎_elim
         (λ (x : (other ≡ id) × (both ≡ Witnessed more)). absurd (apart x.0))
         (λ (x : (other ≢ id) × (get_elem? t.views other ≡ some (Witnessed more))). shows.agrees other (Witnessed more) x.1)
         (at_set t.views id other both (Witnessed more) there) in
         let first = shows_changed w w t.views id (Witnessed callers) both shows at heir
-        (All-append (WasThere w) callers more (shows.agrees id (Witnessed callers) at) others)
+        (All-append (WasThere w.world) callers more (shows.agrees id (Witnessed callers) at) others)
         (λ seat u _ e. shows.agrees seat u e) in
-        (w, reached, spends other w (set t.views id both) first)
+        (w, lived, agrees, spends other w (set t.views id both) first)

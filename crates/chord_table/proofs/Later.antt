@@ -34,6 +34,8 @@ step_later old new taken sent (CallerStep.Submits request ask low now) =
 step_later old new taken sent (CallerStep.Repeats number submission ask at waits now) = later_itself old
 step_later old new taken sent (CallerStep.Takes told request fresh) =
     record { number = refl; submitted = nothing_more old.submitted; mine = (_, refl); told = nothing_more old.told }
+step_later old new taken sent (CallerStep.Gives_up given submission at waits) =
+    record { number = refl; submitted = nothing_more old.submitted; mine = nothing_more old.mine; told = nothing_more old.told }
 step_later old new taken sent (CallerStep.Ignores told none) = later_itself old
 step_later old new taken sent (CallerStep.Hears_full caller number) = later_itself old
 step_later old new taken sent CallerStep.Shows = later_itself old
@@ -42,7 +44,7 @@ step_later old new taken sent (CallerStep.Meets note) =
 
 -- both are nodes, or the new caller is a later state of the old one
 abbrev pub GoesOn : Actor → Actor → Type 0
-GoesOn (OfNode old) (OfNode new) = Unit {0}
+GoesOn (OfNode old crashed) (OfNode new out) = Unit {0}
 GoesOn (OfCaller old) (OfCaller new) = IsLater old new
 GoesOn _ _ = ⊥
 
@@ -53,7 +55,7 @@ event_goes_on _ _ _ _ _ (Event.Calls {old = old} {new = new} {taken = taken} {se
 -- a caller that was there is there after an event, then or later
 pub was_there_after : (world : World) (old new : Actor) (sent : Option Message) (call : Option Done) → AreOne old new → GoesOn old new → IsThere world old
     → (caller : Caller) → WasThere world caller → WasThere (world_after world new sent call) caller
-was_there_after world (OfNode old) (OfNode new) sent call same on here caller was = was
+was_there_after world (OfNode old crashed) (OfNode new out) sent call same on here caller was = was
 was_there_after world (OfCaller old) (OfCaller new) sent call same on here caller (now, at, later) =
     let here_too : caller_at new.number world.callers ≡ Some old = subst (λ n. caller_at n world.callers ≡ Some old) same here in
     ⊎_elim
@@ -65,10 +67,10 @@ was_there_after world (OfCaller old) (OfCaller new) sent call same on here calle
     ))
     (λ apart. (now, callers_by.put_apart new world.callers caller.number apart ∙ at, later))
     (cases_eq caller.number new.number)
-was_there_after world (OfNode old) (OfCaller new) sent call same on here caller was = absurd same
-was_there_after world (OfCaller old) (OfNode new) sent call same on here caller was = absurd same
+was_there_after world (OfNode old crashed) (OfCaller new) sent call same on here caller was = absurd same
+was_there_after world (OfCaller old) (OfNode new out) sent call same on here caller was = absurd same
 
 -- a caller that was there is there after an actor was admitted
 pub was_there_entered : (world : World) (new : Actor) (caller : Caller) → WasThere world caller → WasThere (world_with world new) caller
-was_there_entered world (OfNode new) caller was = was
+was_there_entered world (OfNode new crashed) caller was = was
 was_there_entered world (OfCaller new) caller (now, at, later) = (now, caller_left caller.number world.callers (new ∷ []) now at, later)

@@ -38,6 +38,7 @@ same_caller : (old new : Caller) (taken sent : Option Letter) → CallerStep old
 same_caller old new taken sent (CallerStep.Submits request ask low now) = refl
 same_caller old new taken sent (CallerStep.Repeats number submission ask at waits now) = refl
 same_caller old new taken sent (CallerStep.Takes told request fresh) = refl
+same_caller old new taken sent (CallerStep.Gives_up given submission at waits) = refl
 same_caller old new taken sent (CallerStep.Ignores told none) = refl
 same_caller old new taken sent (CallerStep.Hears_full caller number) = refl
 same_caller old new taken sent CallerStep.Shows = refl

@@ -3,8 +3,8 @@ use Rattle.std.proofs.Common.{◌≡◌, ◌≢◌, ◌⊎◌, ℕ, zero, suc, L
 use mathlib.Core.Option.{some, some-ne-none, some-injective}
 use lib.ListN.{get_elem?}
 use Rattle.atomic_table.proofs.Lists.{at_set}
+use Rattle.chord_table.specs.Scenes.{Scene}
 use Rattle.chord_table.specs.Seen.{View}
-use Rattle.chord_model.specs.World.{World}
 use Rattle.chord_table.specs.Views.{IsTrueOf, HaveOneOwner, Shows}
 
 module _ {A : Type 0} where
@@ -20,8 +20,8 @@ pub record IsHeir (v w : View) : Type 0 where
   pub left : (u : View) → HaveOneOwner w u → HaveOneOwner v u
   pub right : (u : View) → HaveOneOwner u w → HaveOneOwner u v
 
--- one view changed, in another world
-pub shows_changed : (old new : World) (views : List View) (id : ℕ) (v w : View) → Shows old views → get_elem? views id ≡ some v → IsHeir v w → IsTrueOf new w
+-- one view changed, in another scene
+pub shows_changed : (old new : Scene) (views : List View) (id : ℕ) (v w : View) → Shows old views → get_elem? views id ≡ some v → IsHeir v w → IsTrueOf new w
     → ((seat : ℕ) (u : View) → seat ≢ id → get_elem? views seat ≡ some u → IsTrueOf new u)
     → Shows new (set views id w)
 shows_changed old new views id v w shows at heir mine others = record {
@@ -42,7 +42,7 @@ shows_changed old new views id v w shows at heir mine others = record {
 }
 
 -- one more view, whose owner has no seat yet
-pub shows_added : (w : World) (views : List View) (v : View) → Shows w views → IsTrueOf w v
+pub shows_added : (w : Scene) (views : List View) (v : View) → Shows w views → IsTrueOf w v
     → ((seat : ℕ) (u : View) → get_elem? views seat ≡ some u → (HaveOneOwner u v → ⊥) × (HaveOneOwner v u → ⊥))
     → Shows w (views ++ v ∷ [])
 shows_added w views v shows mine alone = record {
@@ -58,3 +58,18 @@ shows_added w views v shows mine alone = record {
       (at_snoc views v t other f))
       (at_snoc views v u seat e);
 }
+
+-- one view cut in two, in another scene
+pub shows_parted : (old new : Scene) (views : List View) (id : ℕ) (v left right : View) → Shows old views → get_elem? views id ≡ some v → IsHeir v left → IsHeir v right
+    → (HaveOneOwner left right → ⊥) → (HaveOneOwner right left → ⊥) → IsTrueOf new left → IsTrueOf new right
+    → ((seat : ℕ) (u : View) → seat ≢ id → get_elem? views seat ≡ some u → IsTrueOf new u)
+    → Shows new (set views id left ++ right ∷ [])
+shows_parted old new views id v left right shows at first second apart other_apart mine yours others =
+    shows_added new (set views id left) right (shows_changed old new views id v left shows at first mine others) yours (λ seat u e. alone seat u (at_set views id seat left u e))
+  where
+    alone : (seat : ℕ) (u : View) → ((seat ≡ id) × (left ≡ u)) ⊎ ((seat ≢ id) × (get_elem? views seat ≡ some u)) → (HaveOneOwner u right → ⊥) × (HaveOneOwner right u → ⊥)
+    alone seat u (inl (here, is)) = subst (λ (z : View). (HaveOneOwner z right → ⊥) × (HaveOneOwner right z → ⊥)) is (apart, other_apart)
+    alone seat u (inr (away, e)) = (
+      (λ one. away (shows.apart seat id u v e at (second.right u one))),
+      (λ one. away (sym (shows.apart id seat v u at e (second.left u one)))),
+    )

@@ -5,19 +5,14 @@ use mathlib.Core.Option.{some}
 use lib.ListN.{get_elem?}
 use Rattle.atomic_table.specs.Table.{Me, Joins}
 use Rattle.atomic_table.proofs.Lists.{at_set}
-use Rattle.chord_model.specs.World.{World}
 use Rattle.chord_table.proofs.Keeping.{joins_as, spent_has_none}
+use Rattle.chord_table.proofs.Owning.{turned}
 use Rattle.chord_table.specs.Actors.{AreOne}
-use Rattle.chord_table.specs.Seen.{Actor, OfNode, OfCaller, Sight, View, Admitted, Shown, Witnessed, Sent, Spent}
-use Rattle.chord_table.specs.Views.{OneIs, AllDiffer, IsSeen, IsTrueOf, HaveOneOwner, Shows, IsKept, view_of, Assembled, view_of_assembled, with_seat}
+use Rattle.chord_table.specs.Scenes.{Scene}
+use Rattle.chord_table.specs.Seen.{Actor, Sight, View, Admitted, Shown, Together, Witnessed, Sent, Standing, Spent}
+use Rattle.chord_table.specs.Views.{OneIs, AllDiffer, ShareOne, IsSeenIn, IsTrueOf, HaveOneOwner, Shows, IsKept, view_of, Assembled, view_of_assembled, with_seat, known_in}
 
 -- ---- no actor twice
-
-pub one_turned : (a b : Actor) → AreOne a b → AreOne b a
-one_turned (OfNode a) (OfNode b) one = sym one
-one_turned (OfCaller a) (OfCaller b) one = sym one
-one_turned (OfNode a) (OfCaller b) one = one
-one_turned (OfCaller a) (OfNode b) one = one
 
 -- a sight in a list with one appended is an old one, or the appended one
 one_of_push : (taken : List Sight) (sight : Sight) (actor : Actor) → OneIs (taken ++ sight ∷ []) actor → OneIs taken actor ⊎ AreOne sight.actor actor
@@ -26,24 +21,31 @@ one_of_push [] sight actor (inr none) = absurd none
 one_of_push (first ∷ rest) sight actor (inl one) = inl (inl one)
 one_of_push (first ∷ rest) sight actor (inr one) = ⊎_elim (λ o. inl (inr o)) (λ o. inr o) (one_of_push rest sight actor one)
 
+shared_of_push : (taken : List Sight) (sight : Sight) (sights : List Sight) → ShareOne (taken ++ sight ∷ []) sights → ShareOne taken sights ⊎ OneIs sights sight.actor
+shared_of_push taken sight [] h = absurd h
+shared_of_push taken sight (other ∷ rest) (inl h) = ⊎_elim (λ o. inl (inl o)) (λ o. inr (inl (turned sight.actor other.actor o))) (one_of_push taken sight other.actor h)
+shared_of_push taken sight (other ∷ rest) (inr h) = ⊎_elim (λ o. inl (inr o)) (λ o. inr (inr o)) (shared_of_push taken sight rest h)
+
 differ_push : (taken : List Sight) (sight : Sight) → AllDiffer taken → (OneIs taken sight.actor → ⊥) → AllDiffer (taken ++ sight ∷ [])
 differ_push [] sight differ none = ((λ h. h), tt)
 differ_push (first ∷ rest) sight differ none = (
-  (λ one. ⊎_elim differ.0 (λ o. none (inl (one_turned sight.actor first.actor o))) (one_of_push rest sight first.actor one)),
+  (λ one. ⊎_elim differ.0 (λ o. none (inl (turned sight.actor first.actor o))) (one_of_push rest sight first.actor one)),
   differ_push rest sight differ.1 (λ o. none (inr o)),
 )
 
 -- ---- one seat takes in another
 
-spent_left : (u : View) → HaveOneOwner Spent u → ⊥
-spent_left (Admitted _ _ _) h = h
+pub spent_left : (u : View) → HaveOneOwner Spent u → ⊥
+spent_left (Admitted _ _ _ _) h = h
 spent_left (Shown _ _) h = h
+spent_left (Together _) h = h
 spent_left (Witnessed _) h = h
 spent_left (Sent _) h = h
+spent_left (Standing _) h = h
 spent_left Spent h = h
 
 -- each view with the same owner as the new view had the same owner as one of the two old ones
-record IsHeirOfBoth (v w both : View) : Type 0 where
+pub record IsHeirOfBoth (v w both : View) : Type 0 where
   pub left : (u : View) → HaveOneOwner both u → HaveOneOwner v u ⊎ HaveOneOwner w u
   pub right : (u : View) → HaveOneOwner u both → HaveOneOwner u v ⊎ HaveOneOwner u w
 
@@ -62,7 +64,7 @@ stands views id other both seat u e = ⊎_elim
     (at_set views id seat both u x.1))
     (at_set (set views id both) other seat Spent u e)
 
-shows_joined : (world : World) (views : List View) (id other : ℕ) (v w both : View) → Shows world views → get_elem? views id ≡ some v → get_elem? views other ≡ some w
+pub shows_joined : (world : Scene) (views : List View) (id other : ℕ) (v w both : View) → Shows world views → get_elem? views id ≡ some v → get_elem? views other ≡ some w
     → IsHeirOfBoth v w both → IsTrueOf world both → Shows world (set (set views id both) other Spent)
 shows_joined world views id other v w both shows at there heir true = record {
   agrees = λ seat u e. agrees seat u (stands views id other both seat u e);
@@ -95,35 +97,40 @@ pub take_as : (id other : ℕ) (me you : Me ℕ View) (a : Assembled) (s : Sight
 take_as id other me you a s is came = joins_as id other me you (view_of_assembled a) (view_of s) with_seat is came allowed
   where
     both : View
-    both = Admitted a.register.nodes a.register.callers (a.taken ++ s ∷ [])
+    both = Admitted a.register.nodes a.register.callers (known_in a.register) (a.taken ++ s ∷ [])
 
     heir : IsHeirOfBoth (view_of_assembled a) (view_of s) both
     heir = record { left = λ u. left u; right = λ u. right u }
       where
         left : (u : View) → HaveOneOwner both u → HaveOneOwner (view_of_assembled a) u ⊎ HaveOneOwner (view_of s) u
-        left (Admitted _ _ _) h = inl h
+        left (Admitted _ _ _ _) h = inl h
         left (Shown actor _) h = one_of_push a.taken s actor h
+        left (Together sights) h = shared_of_push a.taken s sights h
         left (Witnessed _) h = inl h
         left (Sent _) h = inl h
+        left (Standing _) h = inl h
         left Spent h = inl h
 
         right : (u : View) → HaveOneOwner u both → HaveOneOwner u (view_of_assembled a) ⊎ HaveOneOwner u (view_of s)
-        right (Admitted _ _ _) h = inl h
-        right (Shown actor _) h = ⊎_elim (λ o. inl o) (λ o. inr (one_turned s.actor actor o)) (one_of_push a.taken s actor h)
+        right (Admitted _ _ _ _) h = inl h
+        right (Shown actor _) h = ⊎_elim (λ o. inl o) (λ o. inr (turned s.actor actor o)) (one_of_push a.taken s actor h)
+        right (Together sights) h = shared_of_push a.taken s sights h
         right (Witnessed _) h = inl h
         right (Sent _) h = inl h
+        right (Standing _) h = inl h
         right Spent h = inl h
 
     allowed : Joins IsKept id (view_of_assembled a) other (view_of s) both Spent
-    allowed t (w, reached, shows) at apart there =
+    allowed t (w, lived, agrees, shows) at apart there =
         let yours : get_elem? t.views other ≡ some (view_of s) = ⊎_elim
         (λ (x : (other ≡ id) × (both ≡ view_of s)). absurd (apart x.0))
         (λ (x : (other ≢ id) × (get_elem? t.views other ≡ some (view_of s))). x.1)
         (at_set t.views id other both (view_of s) there) in
-        let (nodes, callers, differ, all) = shows.agrees id (view_of_assembled a) at in
+        let (nodes, callers, named, differ, all) = shows.agrees id (view_of_assembled a) at in
         let new = differ_push a.taken s differ (λ (o : OneIs a.taken s.actor). apart (sym (shows.apart id other (view_of_assembled a) (view_of s) at yours o))) in (
           w,
-          reached,
+          lived,
+          agrees,
           shows_joined w t.views id other (view_of_assembled a) (view_of s) both shows at yours heir
-              (nodes, callers, new, All-push (IsSeen w) a.taken s all (shows.agrees other (view_of s) yours)),
+              (nodes, callers, named, new, All-push (IsSeenIn w) a.taken s all (shows.agrees other (view_of s) yours)),
         )

@@ -2,12 +2,11 @@
 ghost use Rattle.std.specs.Prelude.{◌≡◌, ◌++◌, [], ◌∷◌, Option, Some};
 ghost use Rattle.chord_model.specs.declared.message.Message.{Message as Content};
 ghost use Rattle.chord_table.specs.Seen.{OfCaller};
-ghost use Rattle.chord_table.specs.Shown.{IsShown};
-ghost use Rattle.chord_table.specs.Views.{MayBecome, caller_in};
+ghost use Rattle.chord_table.specs.Views.{IsTrueOfSome, MayBecome, MayRelinkTo, caller_in, view_of};
 
 use crate::envelope::Envelope;
 use crate::event::Event;
-use crate::moves::{Local, Look, Post, Receive, Testify};
+use crate::moves::{Local, Look, Pair, Post, Receive, Relink, Testify, Vacate};
 use crate::naming::Naming;
 use crate::shared::Shared;
 use crate::view::View;
@@ -33,7 +32,9 @@ impl<J: Naming> Model for ActorSeat<J> {
 
     ghost view = { λ a. sight_of a.seat.me.0 };
 
-    ghost invariant = { λ a. (a.seat.table_id ≡ J.name.table) × (a.seat.me ≡ (view_of (sight_of a.seat.me.0), [])) × (a.word ≡ word_of J.name (sight_of a.seat.me.0).actor) × (a.word < J.name.table.words) };
+    ghost invariant = { λ a. (a.seat.table_id ≡ J.name.table)
+        × (a.seat.me ≡ (view_of (sight_of a.seat.me.0), []))
+        × (a.word ≡ word_of J.name (sight_of a.seat.me.0).actor) × (a.word < J.name.table.words) };
 }
 
 impl<J: Naming> ActorSeat<J> {
@@ -46,6 +47,36 @@ impl<J: Naming> ActorSeat<J> {
         let _ = after;
         let word = self.word;
         table.table.shared.load::<Local<E>>(&mut self.seat, word);
+    }
+
+    /// Records a step of the ring at the actor, which is a node, beside another node: both seats
+    /// become one, and two again. The proof names the new state by `E.actor`.
+    pub(crate) fn relink<E: Event, A>(
+        &mut self,
+        table: &Shared<J>,
+        other: &mut ActorSeat<J>,
+        after: &A,
+    )
+        requires step { MayRelinkTo self.old.actor other.old.actor E.actor }
+        ensures mine { self.new ≡ record self.old { actor = E.actor } }
+        ensures other { other.new ≡ other.old }
+    {
+        let _ = after;
+        let (_, nothing) = table.table.shared.load_new_seat::<Vacate>(0);
+        let theirs = std::mem::replace(&mut other.seat, nothing);
+        table.table.shared.join_seat::<Pair>(&mut self.seat, theirs);
+        let back = table.table.shared.split_seat::<Relink<E>>(&mut self.seat);
+        other.seat = back;
+    }
+
+    /// The same at the node alone, where the step is one whatever other nodes have.
+    pub(crate) fn relink_alone<E: Event, A>(&mut self, table: &Shared<J>, after: &A)
+        requires step { MayRelinkTo self.old.actor self.old.actor E.actor }
+        ensures { self.new ≡ record self.old { actor = E.actor } }
+    {
+        let _ = after;
+        let at = self.word;
+        table.table.shared.load::<Local<E>>(&mut self.seat, at);
     }
 
     /// Records an event and sends its message. The proof names the new state by `E.actor`.
@@ -72,7 +103,9 @@ impl<J: Naming> ActorSeat<J> {
     /// Takes in a message that was sent to the actor.
     pub(crate) fn receive(&mut self, table: &Shared<J>, envelope: Envelope<J>) -> Message
         ensures message { result ≡ envelope }
-        ensures seat { self.new ≡ record self.old { messages = self.old.messages ++ envelope ∷ [] } }
+        ensures seat { self.new ≡ record self.old {
+          messages = self.old.messages ++ envelope ∷ [];
+        } }
     {
         // The message is moved behind the step, so that it is moved once.
         table
@@ -95,10 +128,10 @@ impl<J: Naming> ActorSeat<J> {
         }
     }
 
-    /// Proves that what the seat shows is true of some reachable world.
+    /// Proves that what the seat shows is true of some scene that steps lead to.
     pub(crate) fn look(&mut self, table: &Shared<J>)
         ensures same { self.new ≡ self.old }
-        ensures shown { IsShown self.old }
+        ensures shown { IsTrueOfSome (view_of self.old) }
     {
         table.table.shared.load::<Look>(&mut self.seat, 0);
     }

@@ -1,6 +1,6 @@
 //! The seats of callers.
 ghost use Rattle.std.specs.Prelude.{◌≡◌, ◌++◌, [], ◌∷◌, Contains, Option, None, Some};
-ghost use Rattle.chord_caller.specs.Caller.{AskLetter, CallerStep, Letter, with_request};
+ghost use Rattle.chord_caller.specs.Caller.{AskLetter, CallerStep, Letter, with_given_up, with_request};
 ghost use Rattle.chord_caller.specs.Client.{caller_after_hearing};
 ghost use Rattle.chord_model.specs.Letters.{message_of};
 ghost use Rattle.chord_model.specs.declared.message.Message.TheVariants.{Ask as AskMessage, Told as ToldMessage};
@@ -9,11 +9,11 @@ ghost use Rattle.chord_table.specs.Views.{MayCall};
 
 use crate::actor_seat::ActorSeat;
 use crate::envelope::Envelope;
+use crate::laws::each_scene_holds;
 use crate::naming::Naming;
 use crate::shared::Shared;
 use crate::witness::Witness;
 use chord_caller::{Ask, CallerCore, Told};
-use chord_model::laws;
 use chord_node::Message;
 use std::marker::{Brand, Model};
 
@@ -73,6 +73,14 @@ impl<J: Naming> CallerSeat<J> {
         self.seat.send::<Brand, ()>(table, &(), again)
     }
 
+    /// Records that the caller gave its pending call of this number up.
+    pub fn give_up(&mut self, table: &Shared<J>, number: u64)
+        requires event { CallerStep self.old.caller None (with_given_up number self.old.caller) None }
+        ensures { self.new ≡ record self.old { caller = with_given_up number self.old.caller } }
+    {
+        self.seat.local::<Brand, u64>(table, &number);
+    }
+
     /// Records that the caller heard a reply that came.
     pub fn hear(&mut self, table: &Shared<J>, told: &Told)
         requires came { Contains self.old.messages (ToldMessage told.now) }
@@ -84,7 +92,9 @@ impl<J: Naming> CallerSeat<J> {
     /// Takes in a message for the caller.
     pub fn receive(&mut self, table: &Shared<J>, envelope: Envelope<J>) -> Message
         ensures message { result ≡ envelope }
-        ensures seat { self.new ≡ record self.old { messages = self.old.messages ++ envelope ∷ [] } }
+        ensures seat { self.new ≡ record self.old {
+          messages = self.old.messages ++ envelope ∷ [];
+        } }
     {
         self.seat.receive(table, envelope)
     }
@@ -103,7 +113,7 @@ impl<J: Naming> CallerSeat<J> {
         ensures same { self.new ≡ self.old }
         ensures shown { CallerShown self.old }
     {
-        laws::headline();
+        each_scene_holds();
         self.seat.look(table);
     }
 }

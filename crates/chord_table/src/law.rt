@@ -7,11 +7,11 @@ use atomic_table::TableRule;
 pub struct Law;
 
 impl TableRule<u8, View, ()> for Law {
-    ghost use Rattle.std.specs.Prelude.{[]};
+    ghost use Rattle.std.specs.Prelude.{[], true};
     ghost use Rattle.chord_table.specs.Seen.{Admitted};
-    ghost use Rattle.chord_table.specs.Views.{IsKept};
+    ghost use Rattle.chord_table.specs.Views.{IsKept, known_as};
 
     ghost holds = { λ _. IsKept };
 
-    ghost first = { λ _. Admitted [] [] [] };
+    ghost first = { λ _. Admitted [] [] (known_as [] true []) [] };
 }

@@ -1,5 +1,5 @@
 //! A table before it has its name.
-ghost use Rattle.std.specs.Prelude.{◌≡◌, []};
+ghost use Rattle.std.specs.Prelude.{◌≡◌, [], true};
 
 use crate::law::Law;
 use crate::naming::Naming;
@@ -20,22 +20,38 @@ pub struct TableParts {
 }
 
 impl Model for TableParts {
-    ghost use Rattle.std.specs.Prelude.{◌≡◌, ◌<◌, ◌+◌, ◌^◌, []};
-    ghost use Rattle.chord_table.specs.Views.{Name};
+    ghost use Rattle.std.specs.Prelude.{◌≡◌, ◌<◌, ◌+◌, ◌^◌, [], true};
+    ghost use Rattle.chord_table.specs.Views.{Name, known_as};
     ghost use Rattle.chord_table.specs.Seen.{Admitted};
 
     ghost Value = { Name };
 
-    ghost view = { λ b. record { table = b.table.shared.table_id; slots = b.slots; callers = b.callers } };
+    ghost view = { λ b. record {
+      table = b.table.shared.table_id;
+      slots = b.slots;
+      callers = b.callers;
+    } };
 
-    ghost invariant = { λ b. (b.table.shared.table_id.words ≡ b.slots + b.callers) × (0 < b.slots + b.callers) × (b.slots + b.callers < 2 ^ 64) × (b.seat.table_id ≡ b.table.shared.table_id) × (b.seat.me ≡ (Admitted [] [] [], [])) };
+    ghost invariant = { λ b. (b.table.shared.table_id.words ≡ b.slots + b.callers)
+        × (0 < b.slots + b.callers) × (b.slots + b.callers < 2 ^ 64)
+        × (b.seat.table_id ≡ b.table.shared.table_id)
+        × (b.seat.me ≡ (Admitted [] [] (known_as [] true []) [], [])) };
 }
 
 impl TableParts {
     /// Gives the table its name, without new memory.
     pub fn assemble<J: Naming>(self) -> (Shared<J>, Registrar<J>)
         requires { self ≡ J.name }
-        ensures { result.1 ≡ record { nodes = []; callers = [] } }
+        ensures { result.1 ≡ record {
+          register = record {
+            nodes = [];
+            callers = [];
+            ids = [];
+            premise = true;
+            principals = [];
+          };
+          taken = [];
+        } }
     {
         let TableParts {
             table,

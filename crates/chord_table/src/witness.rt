@@ -2,12 +2,12 @@
 ghost use Rattle.std.specs.Prelude.{◌≡◌, ◌++◌, []};
 ghost use Rattle.chord_table.specs.Shown.{WitnessShown};
 
+use crate::laws::each_scene_holds;
 use crate::moves::{Attend, Gather, Look};
 use crate::naming::Naming;
 use crate::shared::Shared;
 use crate::view::View;
 use atomic_table::Seat;
-use chord_model::laws;
 use std::marker::{Model, PhantomData};
 
 /// Callers, each as it was when its witness was taken. Contracts see them in the order joined.
@@ -56,7 +56,7 @@ impl<J: Naming> Witness<J> {
         ensures same { self.new ≡ self.old }
         ensures shown { WitnessShown self.old }
     {
-        laws::headline();
+        each_scene_holds();
         table.table.shared.load::<Look>(&mut self.seat, 0);
     }
 }

@@ -1,159 +1,16 @@
-//! How nodes and callers get their numbers, and what a core with its seat answers, without a ring.
+//! What a core with its seat answers, without a ring.
 ghost use Rattle.std.specs.Prelude.{◌≡◌};
 ghost use Rattle.chord_caller.specs.Answers.{new_caller};
 
-use super::{C, ONE, ZERO};
 use crate::checks::check;
 use chord_caller::{CallerCore, SubmitFault};
-use chord_ident::Id;
-use chord_links::Links;
 use chord_live_steps::{Numbers, SeatedCore};
-use chord_live_types::{OpenClientFault, WaitFault};
+use chord_live_types::WaitFault;
 use chord_map::Request;
 use chord_node::Message;
-use chord_store::CappedStore;
 use chord_table::{Naming, Registrar, Shared, TableParts};
 use std::alloc::Global;
 use std::marker::Brand;
-
-#[test]
-fn numbers_are_given_in_turn(rt: HostRuntime) {
-    let parts = Registrar::open(rt.alloc(), 2, 2).expect(&rt, "memory for a table");
-    let (nodes, callers) = numbers_of::<Brand>(rt.alloc(), parts).expect(&rt, "memory for actors");
-    check!(&rt;
-        nodes.before == (0, true),
-        "there is no node yet, and a slot"
-    );
-    check!(&rt; nodes.first == Some(0), "the first node has number 0");
-    check!(&rt; nodes.second == Some(1), "the next one has number 1");
-    check!(&rt; nodes.after == (2, false), "then both slots are taken");
-    check!(&rt;
-        nodes.taken == (true, true, false),
-        "both identifiers are taken, and no other"
-    );
-    check!(&rt; callers.first == Some(0), "the first caller has number 0");
-    check!(&rt; callers.second == Some(1), "a client has the next number");
-    check!(&rt; callers.third == None, "there is no third number");
-    check!(&rt;
-        callers.fourth == Some(OpenClientFault::CallersSpent),
-        "nor one for a client"
-    );
-    check!(&rt; callers.count == 2, "two callers were admitted");
-}
-
-/// What the numbers of nodes answer: how many nodes there are, and whether there is a slot.
-#[derive(Clone, Copy)]
-struct NodesNumbered {
-    before: (usize, bool),
-    first: Option<u64>,
-    second: Option<u64>,
-    after: (usize, bool),
-    /// Whether the identifiers of node 0 and of node 1 are taken, and 5.
-    taken: (bool, bool, bool),
-}
-
-/// What the numbers of callers answer.
-#[derive(Clone, Copy)]
-struct CallersNumbered {
-    first: Option<u64>,
-    second: Option<u64>,
-    third: Option<u64>,
-    fourth: Option<OpenClientFault>,
-    count: usize,
-}
-
-fn numbers_of<J: Naming>(
-    alloc: Global,
-    parts: TableParts,
-) -> Option<(NodesNumbered, CallersNumbered)>
-    requires name { parts ≡ J.name }
-    requires slots { parts.slots ≡ 2 }
-    requires callers { parts.callers ≡ 2 }
-{
-    let (table, registrar) = parts.assemble::<J>();
-    let mut numbers = Numbers::new(alloc, registrar, 2, 2);
-    let nodes = nodes_numbered(alloc, &table, &mut numbers)?;
-    let callers = callers_numbered(alloc, &table, &mut numbers);
-    drop(numbers.into_registrar());
-    drop(table);
-    Some((nodes, callers))
-}
-
-/// The numbers of two nodes that are admitted.
-fn nodes_numbered<J: Naming>(
-    alloc: Global,
-    table: &Shared<J>,
-    numbers: &mut Numbers<J>,
-) -> Option<NodesNumbered>
-    requires none { numbers.old.nodes ≡ 0 }
-    requires slots { J.name.slots ≡ 2 }
-{
-    let before = (numbers.nodes(), numbers.has_slot());
-    let store = CappedStore::new(alloc, 1);
-    let (node, seat) = numbers.create(table, alloc, ZERO.id, 3, store).ok()?;
-    let first = node.number();
-    drop(seat);
-    drop(node);
-    let store = CappedStore::new(alloc, 1);
-    let (node, seat) = numbers
-        .join(table, alloc, Links::alone(ONE, 3), store)
-        .ok()?;
-    let second = node.number();
-    drop(seat);
-    drop(node);
-    Some(NodesNumbered {
-        before,
-        first: Some(first),
-        second: Some(second),
-        after: (numbers.nodes(), numbers.has_slot()),
-        taken: (
-            numbers.is_taken(ZERO.id),
-            numbers.is_taken(Id::new(C)),
-            numbers.is_taken(Id::new(5)),
-        ),
-    })
-}
-
-/// The numbers of a caller and a client that are admitted, and of two that are not.
-fn callers_numbered<J: Naming>(
-    alloc: Global,
-    table: &Shared<J>,
-    numbers: &mut Numbers<J>,
-) -> CallersNumbered {
-    CallersNumbered {
-        first: number_of_caller(alloc, table, numbers),
-        second: number_of_client(alloc, table, numbers).ok(),
-        third: number_of_caller(alloc, table, numbers),
-        fourth: number_of_client(alloc, table, numbers).err(),
-        count: numbers.callers(),
-    }
-}
-
-/// The number of the next caller that is admitted.
-fn number_of_caller<J: Naming>(
-    alloc: Global,
-    table: &Shared<J>,
-    numbers: &mut Numbers<J>,
-) -> Option<u64> {
-    let (core, seat) = numbers.admit_caller(table, alloc, 1)?;
-    let number = core.number();
-    drop(seat);
-    drop(core);
-    Some(number)
-}
-
-/// The number of the next client that is admitted.
-fn number_of_client<J: Naming>(
-    alloc: Global,
-    table: &Shared<J>,
-    numbers: &mut Numbers<J>,
-) -> Result<u64, OpenClientFault> {
-    let (core, seat) = numbers.admit_client(table, alloc, 1)?;
-    let number = core.number();
-    drop(seat);
-    drop(core);
-    Ok(number)
-}
 
 #[test]
 fn a_seated_core_submits_and_meets(rt: HostRuntime) {

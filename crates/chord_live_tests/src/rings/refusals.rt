@@ -19,7 +19,9 @@ use std::alloc::Global;
 use std::marker::Brand;
 use std::process::Abort;
 use std::sync::Wait;
-use std::time::Clock;
+use std::thread;
+use std::thread::Threads;
+use std::time::{Clock, Duration};
 
 /// Checks that there is no ring of these settings.
 fn are_bad(alloc: Global, settings: Settings) -> bool {
@@ -491,5 +493,45 @@ fn stopped<J: Naming, R: Abort + Wait + Clock>(rt: &R, alloc: Global, parts: Rin
     );
     check!(rt; caller.is_pending(2), "the request stays pending");
     drop(caller);
+    ring.close();
+}
+
+/// A try that is meant to wait for a minute ends when the ring is stopped. Six of them would take
+/// longer than all tests may.
+#[test]
+fn a_stop_ends_a_wait(rt: HostRuntime) {
+    for _ in 0..6u64 {
+        let parts = parts_with(&rt, rt.alloc(), settings(1, 1, 6, 60_000));
+        waits_until_a_stop::<Brand, _>(&rt, rt.alloc(), parts);
+    }
+}
+
+/// Asks a node that has no worker, and stops the ring meanwhile.
+fn waits_until_a_stop<J: Naming + Send + Sync, R: Abort + Threads + Wait + Clock + Sync>(
+    rt: &R,
+    alloc: Global,
+    parts: RingParts,
+)
+    requires { parts.name ≡ J.name }
+{
+    let ring = founded::<J, CappedStore, R>(rt, parts, CappedStore::new(alloc, 1));
+    let asked = &ring;
+    let (unheard, _) = thread::join(
+        rt,
+        move || {
+            let mut caller = asked.open_caller(rt, 1).expect(rt, "a caller");
+            let unheard = ask(rt, &mut caller, 0, Request::insert(alloc, b"abc", b"x"));
+            drop(caller);
+            unheard
+        },
+        move || {
+            thread::sleep(rt, Duration::from_millis(20));
+            asked.stop();
+        },
+    );
+    check!(rt;
+        unheard == Err(AskFault::Wait(WaitFault::NoAnswer)),
+        "a stopped ring does not answer"
+    );
     ring.close();
 }

@@ -1,20 +1,19 @@
-//! How nodes look to an operator, and whether one may crash.
+//! How nodes look to an operator, and which may crash.
 ghost use Rattle.std.specs.Prelude.{◌≡◌};
 
 use super::workers::{Deed, with_two_workers};
 use super::{
-    A, Said, Way, call, founded, insert_by_another, parts_with, settings, sight_of, succeeds, tick,
-    tick_both,
+    A, C, Said, Way, call, founded, insert_by_another, parts_with, settings, sight_of, succeeds,
+    tick, tick_both,
 };
 use crate::checks::check;
 use chord_ident::{Id, Span};
 use chord_live::OpenCaller;
-use chord_live_ring::{
-    AskCounts, HandoverCounts, NodeSight, OutboxSight, Ring, RingParts, SegmentSight,
-};
-use chord_live_types::{AskFault, NoSuchNode, WaitFault};
+use chord_live_ring::{CrashFault, Ring, RingParts};
+use chord_live_types::{AskFault, WaitFault};
 use chord_map::Request;
-use chord_node::{Holder, Phase};
+use chord_node::Holder;
+use chord_sight::{AskCounts, HandoverCounts, NodeSight, OutboxSight, Phase, SegmentSight};
 use chord_store::{CappedStore, EntryStore};
 use chord_table::Naming;
 use std::alloc::Global;
@@ -86,7 +85,6 @@ fn is_new<R: Abort>(rt: &R, sight: &NodeSight) {
     check!(rt; sight.number == 0, "the first node has number 0");
     check!(rt; sight.id == Id::new(A), "and its identifier");
     check!(rt; sight.phase == Phase::Staying, "it stays");
-    check!(rt; !sight.crashed, "it did not crash");
     check!(rt; sight.predecessor == None, "it knows no predecessor");
     check!(rt;
         sight.successors.as_slice() == [0u64].as_slice(),
@@ -213,14 +211,15 @@ fn is_ticked<R: Abort>(rt: &R, sight: &NodeSight) {
 /// The only node may not crash. Once it did, it is seen as it was.
 fn crashes<J: Naming, R: Abort + Wait>(rt: &R, alloc: Global, ring: &Ring<J, CappedStore>) {
     check!(rt;
-        ring.may_crash(rt, 0) == Ok(false),
+        ring.crash_if_safe(rt, 0) == Err(CrashFault::Unsafe),
         "no ring stands without its only node"
     );
     check!(rt;
-        ring.may_crash(rt, 1) == Err(NoSuchNode),
+        ring.crash_if_safe(rt, 1) == Err(CrashFault::NoSuchNode),
         "there is no node 1"
     );
-    check!(rt; ring.phase_of(rt, 0) == Some(Phase::Staying), "it stays");
+    check!(rt; ring.holds_premise(rt), "the ring allowed each crash so far");
+    check!(rt; ring.phase_of(rt, 0) == Some(chord_node::Phase::Staying), "it stays");
     check!(rt; ring.phase_of(rt, 1) == None, "nobody else does");
     let crashed = ring.crash(rt, 0);
     check!(rt; crashed == Ok(()), "it crashes all the same");
@@ -228,8 +227,9 @@ fn crashes<J: Naming, R: Abort + Wait>(rt: &R, alloc: Global, ring: &Ring<J, Cap
         ring.phase_of(rt, 0) == None,
         "a node that crashed has no phase"
     );
+    check!(rt; !ring.holds_premise(rt), "the ring did not allow it");
     check!(rt;
-        ring.may_crash(rt, 0) == Ok(false),
+        ring.crash_if_safe(rt, 0) == Err(CrashFault::NotLive),
         "and is no member that could crash"
     );
     check!(rt;
@@ -241,9 +241,71 @@ fn crashes<J: Naming, R: Abort + Wait>(rt: &R, alloc: Global, ring: &Ring<J, Cap
         "though it tells no pairs"
     );
     let sight = sight_of(rt, alloc, ring, 0);
-    check!(rt; sight.crashed, "a node that crashed is seen as such");
+    check!(rt; sight.phase == Phase::Crashed, "a node that crashed is seen as such");
     check!(rt; sight.pairs == 1, "with what it had");
     drop(sight);
+}
+
+#[test]
+fn all_links_are_read_at_once(rt: HostRuntime) {
+    let parts = parts_with(&rt, rt.alloc(), settings(4, 1, 1, 5));
+    at_once::<Brand, _>(&rt, rt.alloc(), parts);
+}
+
+/// Node 0 and two that join by it: one retires, and one crashes.
+fn at_once<J: Naming, R: Abort + Wait + Clock>(rt: &R, alloc: Global, parts: RingParts)
+    requires { parts.name ≡ J.name }
+{
+    let ring = founded::<J, CappedStore, R>(rt, parts, CappedStore::new(alloc, 1));
+    joins_and_settles(rt, alloc, &ring, M);
+    joins_and_settles(rt, alloc, &ring, C);
+    check!(rt; are_read(rt, alloc, &ring, &[0, 1, 2]), "three nodes are members");
+    let left = ring.leave(rt, 2).is_ok() && ring.retire(rt, 2).is_ok();
+    check!(rt; left, "node 2 holds nothing, leaves and retires");
+    check!(rt; are_read(rt, alloc, &ring, &[0, 1]), "who is gone has no row");
+    tick_both(rt, &ring);
+    let crashed = ring.crash_if_safe(rt, 0);
+    check!(rt; crashed == Ok(()), "node 0 crashes");
+    check!(rt; are_read(rt, alloc, &ring, &[1]), "nor who crashed");
+    ring.close();
+}
+
+/// A node joins, and each of three has some rounds of upkeep.
+fn joins_and_settles<J: Naming, R: Abort + Wait>(
+    rt: &R,
+    alloc: Global,
+    ring: &Ring<J, CappedStore>,
+    id: u128,
+) {
+    let joined = succeeds(ring.join(rt, Id::new(id), 0, CappedStore::new(alloc, 1)));
+    check!(rt; joined, "a node joins by the first");
+    for turn in 0..9u64 {
+        let _ = ring.tick(rt, turn % 3).is_ok();
+    }
+}
+
+/// Whether three nodes are read, of which these are members, with the links that each is seen to
+/// have alone.
+fn are_read<J: Naming, S: EntryStore, R: Abort + Wait>(
+    rt: &R,
+    alloc: Global,
+    ring: &Ring<J, S>,
+    members: &[u64],
+) -> bool {
+    let rows = ring
+        .links_at_once(rt, alloc)
+        .expect(rt, "memory for all links");
+    let mut are_right = rows.len() == 3;
+    for (number, row) in rows.iter().enumerate() {
+        let alone = if members.contains(&(number as u64)) {
+            ring.links_of(rt, number as u64)
+        } else {
+            None
+        };
+        are_right = are_right && *row == alone;
+    }
+    drop(rows);
+    are_right
 }
 
 #[test]
@@ -402,10 +464,6 @@ fn has_given<J: Naming, S: EntryStore, R: Abort + Wait + Clock>(
         page_of(rt, alloc, ring, 1, key, b"abc") == Some(both),
         "node 1 tells both pairs of the key in a page of one"
     );
-    check!(rt;
-        ring.may_crash(rt, 0) == Ok(true),
-        "the ring stands without node 0"
-    );
 }
 
 fn has_counted<R: Abort>(rt: &R, sight: &NodeSight, asked: AskCounts, handed: HandoverCounts) {
@@ -438,8 +496,9 @@ fn asks_by_a_crashed_node<J: Naming, S: EntryStore, R: Abort + Wait + Clock>(
     alloc: Global,
     ring: &Ring<J, S>,
 ) {
-    let crashed = ring.crash(rt, 1);
-    check!(rt; crashed == Ok(()), "node 1 crashes");
+    let crashed = ring.crash_if_safe(rt, 1);
+    check!(rt; crashed == Ok(()), "node 1 crashes, since the ring stands without it");
+    check!(rt; ring.holds_premise(rt), "and the ring allowed it");
     let added = insert_by_another(rt, alloc, ring, (Way::Carried, 1), (b"eq", b"x"));
     check!(rt;
         added == Ok(Said::Added),

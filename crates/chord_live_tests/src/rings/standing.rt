@@ -103,7 +103,10 @@ fn stands<J: Naming, R: Abort + Wait + Clock>(rt: &R, alloc: Global, parts: Ring
         "a ring for one caller admits no second one"
     );
     ring.stop();
-    let (is_stopped, left) = (ring.is_stopped(), ring.time_left(rt, &None));
+    let (is_stopped, left) = (
+        ring.is_stopped(),
+        ring.time_left(rt, &None, ring.wait_of_try()),
+    );
     ring.close();
     check!(rt; is_stopped, "a ring that was stopped is stopped");
     check!(rt;
@@ -120,7 +123,7 @@ fn runs<J: Naming, R: Abort + Wait + Clock>(rt: &R, ring: &Ring<J, CappedStore>)
         ring.tries() == 3,
         "a request is sent as often as the settings say"
     );
-    let left = ring.time_left(rt, &None);
+    let left = ring.time_left(rt, &None, ring.wait_of_try());
     check!(rt;
         left == Duration::from_millis(5),
         "and waits as long as they say"

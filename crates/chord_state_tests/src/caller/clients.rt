@@ -235,3 +235,21 @@ fn a_client_turns_round_in_its_window(rt: HostRuntime) {
     let turned = ([Ok(1), Ok(2)], true, Some(60));
     check!(&rt; turned_round(rt.alloc()) == Some(turned));
 }
+
+/// Of a client that gave the first of its two requests up: what is pending, its floor, and whether
+/// it knows the reply that comes then.
+fn gives_up(alloc: Global) -> Option<(Option<u64>, u64, bool)> {
+    let (mut core, _, _) = of_two(alloc)?;
+    if core.is_pending(1) {
+        core.give_up(1);
+    }
+    let (pending, floor) = (core.pending(), core.floor());
+    let known = is_known(core.take(added(7, 1)));
+    drop(core);
+    Some((pending, floor, known))
+}
+
+#[test]
+fn a_client_gives_a_request_up(rt: HostRuntime) {
+    check!(&rt; gives_up(rt.alloc()) == Some((Some(2), 1, true)));
+}

@@ -1,11 +1,11 @@
 //! One look over the seats of all actors.
-ghost use Rattle.std.specs.Prelude.{◌≡◌, [], ◌∷◌};
+ghost use Rattle.std.specs.Prelude.{◌≡◌, [], ◌∷◌, false};
 ghost use Rattle.chord_table.specs.Seen.{OfNode, OfCaller};
 ghost use Rattle.chord_table.specs.Shown.{WholeShown};
 
 use super::founded;
 use chord_store::CappedStore;
-use chord_table::{Assembly, CallerSeat, Naming, NodeSeat, Registrar, Shared, TableParts};
+use chord_table::{CallerSeat, Naming, NodeSeat, Registrar, Shared, TableParts};
 use std::alloc::Global;
 use std::marker::Brand;
 use std::test::Fail;
@@ -16,13 +16,14 @@ fn are_a_world<J: Naming>(
     registrar: Registrar<J>,
     node: NodeSeat<J>,
     caller: CallerSeat<J>,
-) -> Assembly<J>
-    requires nodes { registrar.nodes ≡ node.node.number ∷ [] }
-    requires callers { registrar.callers ≡ caller.caller.number ∷ [] }
-    ensures both { result.taken ≡ record { actor = OfNode node.node; messages = node.messages } ∷ record { actor = OfCaller caller.caller; messages = caller.messages } ∷ [] }
+) -> Registrar<J>
+    requires alone { registrar.taken ≡ [] }
+    requires nodes { registrar.register.nodes ≡ node.node.number ∷ [] }
+    requires callers { registrar.register.callers ≡ caller.caller.number ∷ [] }
+    ensures both { result.taken ≡ record { actor = OfNode node.node false; messages = node.messages } ∷ record { actor = OfCaller caller.caller; messages = caller.messages } ∷ [] }
     ensures shown { WholeShown result }
 {
-    let mut all = Assembly::of(registrar);
+    let mut all = registrar;
     all.take_node(table, node);
     all.take_caller(table, caller);
     all.look_whole(table);

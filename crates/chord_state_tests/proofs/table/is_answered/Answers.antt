@@ -1,8 +1,7 @@
-use Rattle.std.proofs.Common.{[], ◌∷◌, ◌++◌}
-use Rattle.chord_state_tests.proofs.Entering.{may_open}
+use Rattle.std.proofs.Common.{ap, ◌∙◌}
+use Rattle.chord_state_tests.proofs.Entering.{callers_in, may_open_first}
 use Rattle.chord_state_tests.proofs.table.is_answered.Goals as goal
 
 pub admit_caller-caller-requires-clause-may : goal.admit_caller-caller-requires-clause-may
 admit_caller-caller-requires-clause-may g c =
-    let opened = c.assemble-table.result.1 in
-    may_open opened c.admit_node-seat.new.self (opened.nodes ++ 0 ∷ []) c.new-core.result c.assemble-table.ensures c.admit_node-seat.ensures.admitted c.new-core.ensures
+    may_open_first c.admit_node-seat.new.self.register.callers c.new-core.result (ap callers_in c.admit_node-seat.ensures.admitted ∙ ap callers_in c.assemble-table.ensures) c.new-core.ensures

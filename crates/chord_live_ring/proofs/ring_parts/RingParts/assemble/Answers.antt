@@ -1,6 +1,6 @@
 use Rattle.std.proofs.Common.{◌∙◌, ap, sym}
 use Rattle.chord_live_ring.specs.Parts.{Parts}
-use Rattle.chord_table.specs.Views.{Name, Register}
+use Rattle.chord_table.specs.Views.{Name}
 use Rattle.chord_live_ring.proofs.ring_parts.RingParts.assemble.Goals as goal
 
 pub assemble-table-requires : goal.assemble-table-requires
@@ -11,12 +11,6 @@ new-numbers-requires-clause-slots g c = sym c.self.inside.slots ∙ ap (λ (n : 
 
 pub new-numbers-requires-clause-places : goal.new-numbers-requires-clause-places
 new-numbers-requires-clause-places g c = sym c.self.inside.callers ∙ ap (λ (n : Name). n.callers) (ap (λ (p : Parts). p.name) c.self.view_is ∙ c.requires)
-
-pub new-numbers-requires-clause-nodes : goal.new-numbers-requires-clause-nodes
-new-numbers-requires-clause-nodes g c = ap (λ (r : Register). r.nodes) c.assemble-table.ensures
-
-pub new-numbers-requires-clause-callers : goal.new-numbers-requires-clause-callers
-new-numbers-requires-clause-callers g c = ap (λ (r : Register). r.callers) c.assemble-table.ensures
 
 pub invariant_of-result : goal.invariant_of-result
 invariant_of-result g c =

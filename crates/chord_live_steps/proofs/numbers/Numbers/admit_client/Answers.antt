@@ -1,8 +1,14 @@
-use Rattle.chord_live_steps.proofs.Counting.{caller_counted}
+use Rattle.std.proofs.Common.{ap, refl}
+use Rattle.chord_live_steps.proofs.Counting.{open_may, caller_registered}
+use Rattle.chord_table.specs.Views.{Assembled}
 use Rattle.chord_live_steps.proofs.numbers.Numbers.admit_client.Goals as goal
+
+pub open_caller-seat-requires-clause-may : goal.open_caller-seat-requires-clause-may
+open_caller-seat-requires-clause-may g c =
+    open_may c.self.inside.registrar.register.callers c.self.inside.callers c.args.window _ c.self.invariant.2.callers_are c.requires.some c.requires.small refl
 
 pub invariant_of-self : goal.invariant_of-self
 invariant_of-self g c =
     let i = c.self.invariant in
-    let now = caller_counted c.self.inside.registrar _ c.self.inside.nodes c.self.inside.callers c.open_caller-seat.ensures.admitted i.2 i.3 i.4 i.5 i.6 in
-    (i.0, i.1, now.0, now.1, now.2, now.3, now.4)
+    let register = ap (λ (a : Assembled). a.register) c.open_caller-seat.ensures.admitted in
+    (i.0, i.1, caller_registered c.self.inside.registrar.register _ c.self.inside.nodes c.self.inside.callers c.self.inside.callers c.self.inside.ids.items c.self.inside.premise i.2 refl register)

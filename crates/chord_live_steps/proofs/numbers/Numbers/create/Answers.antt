@@ -1,21 +1,25 @@
-use Rattle.std.proofs.Common.{◌<◌, ◌+◌, ◌∙◌, length, All, subst, sym, ap}
-use Rattle.chord_live_steps.proofs.Counting.{counted_on, below_next}
+use Rattle.std.proofs.Common.{◌∙◌, ◌<◌, ◌^◌, ◌≡◌, ◌++◌, ◌∷◌, ◌+◌, [], List, ap, rules, subst, sym}
+use Rattle.chord_live_steps.proofs.Counting.{founder_may, node_registered}
+use Rattle.chord_ident.specs.declared.id.Id.{Id}
 use Rattle.chord_live_steps.specs.Counts.{Counts}
-use Rattle.chord_table.specs.Views.{Register}
+use Rattle.chord_live_steps.specs.Registered.{IsRegister}
+use Rattle.chord_model.specs.Node.{Node}
+use Rattle.chord_table.specs.Views.{Assembled, Register}
 use Rattle.chord_live_steps.proofs.numbers.Numbers.create.Goals as goal
+
+pub admit_node-seat-requires-clause-may : goal.admit_node-seat-requires-clause-may
+admit_node-seat-requires-clause-may g c =
+    let low : c.args.id.number < 2 ^ 128 = search rules in
+    founder_may c.self.inside.registrar.register.nodes c.self.inside.nodes _ c.args.id c.args.r _ (c.self.invariant.2.nodes_are) (ap (λ (counts : Counts). counts.nodes) c.self.view_is ∙ c.requires.none)
+    low c.requires.low c.in_ok-node.ensures.ok
 
 pub invariant_of-self-2 : goal.invariant_of-self-2
 invariant_of-self-2 g c =
     let i = c.self.invariant in
-    let nodes = ap (λ (r : Register). r.nodes) c.admit_node-seat.ensures.admitted in
-    let callers = ap (λ (r : Register). r.callers) c.admit_node-seat.ensures.admitted in
+    let old = c.self.inside.registrar.register in
+    let id = ap (λ (n : Node). n.links.me.id.number) c.in_ok-node.ensures.ok in
+    let register = ap (λ (a : Assembled). a.register) c.admit_node-seat.ensures.admitted ∙ ap (λ n. record old { nodes = old.nodes ++ 0 ∷ []; ids = old.ids ++ n ∷ [] }) id in
     let none = sym (ap (λ (counts : Counts). counts.nodes) c.self.view_is ∙ c.requires.none) in
-    let both = counted_on c.self.inside.registrar.nodes c.self.inside.nodes 0 none i.2 i.3 in (
-      i.0,
-      i.1,
-      ap length nodes ∙ both.0,
-      subst (All (λ no. no < c.self.inside.nodes + 1)) (sym nodes) both.1,
-      subst (All (λ no. no < c.self.inside.callers)) (sym callers) i.4,
-      nodes ∙ below_next c.self.inside.registrar.nodes c.self.inside.nodes 0 none i.5,
-      callers ∙ i.6,
-    )
+    let items = c.push_reserved.ensures.items ∙ ap (λ (l : List Id). l ++ c.args.id ∷ []) c.reserve.ensures.items in
+    let now = node_registered old _ c.self.inside.nodes c.self.inside.callers 0 c.self.inside.ids.items c.self.inside.premise c.args.id i.2 none register in
+    (i.0, i.1, subst (λ (l : List Id). IsRegister (c.self.inside.nodes + 1) c.self.inside.callers l c.self.inside.premise c.admit_node-seat.new.self.register) (sym items) now)

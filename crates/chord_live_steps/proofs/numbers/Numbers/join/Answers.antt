@@ -1,22 +1,31 @@
-use Rattle.std.proofs.Common.{◌<◌, ◌+◌, ◌∙◌, length, All, subst, sym, ap}
+use Rattle.std.proofs.Common.{◌∙◌, ◌<◌, ◌^◌, ◌++◌, ◌∷◌, ◌+◌, [], List, ap, rules, sym, subst}
+use Rattle.std.specs.Prelude.{Contains}
+use Rattle.chord_ident.specs.declared.id.Id.{Id}
 use Rattle.chord_links.specs.declared.peer.Peer.{Peer}
-use Rattle.chord_live_steps.proofs.Counting.{counted_on, below_next}
+use Rattle.chord_live_steps.proofs.Counting.{join_may, node_registered}
 use Rattle.chord_live_steps.specs.Counts.{Counts}
-use Rattle.chord_table.specs.Views.{Register}
+use Rattle.chord_live_steps.specs.Registered.{IsRegister}
+use Rattle.chord_model.specs.Node.{Node}
+use Rattle.chord_table.specs.Views.{Assembled}
 use Rattle.chord_live_steps.proofs.numbers.Numbers.join.Goals as goal
+
+pub join_node-seat-requires-clause-may : goal.join_node-seat-requires-clause-may
+join_node-seat-requires-clause-may g c =
+    let low : c.args.links.me.id.number < 2 ^ 128 = search rules in
+    join_may c.self.inside.registrar.register c.args.pred.now.node _ c.self.inside.nodes c.self.inside.callers c.self.inside.ids.items c.self.inside.premise c.args.links _ c.self.invariant.2
+    (c.requires.own ∙ sym (ap (λ (counts : Counts). counts.nodes) c.self.view_is)) low
+    (subst (λ (ids : List Id). Contains ids c.args.links.me.id → ⊥) (sym (ap (λ (counts : Counts). counts.ids) c.self.view_is)) c.requires.unused)
+    c.requires.live c.requires.between c.requires.behind c.newborn-node.ensures
 
 pub invariant_of-self-2 : goal.invariant_of-self-2
 invariant_of-self-2 g c =
     let i = c.self.invariant in
-    let nodes = ap (λ (r : Register). r.nodes) c.admit_node-seat.ensures.admitted in
-    let callers = ap (λ (r : Register). r.callers) c.admit_node-seat.ensures.admitted in
+    let old = c.self.inside.registrar.register in
+    let ids = c.self.inside.ids.items in
     let next = ap (λ (p : Peer). p.number) c.me-me.ensures ∙ c.requires.own ∙ sym (ap (λ (counts : Counts). counts.nodes) c.self.view_is) in
-    let both = counted_on c.self.inside.registrar.nodes c.self.inside.nodes c.me-me.result.number next i.2 i.3 in (
-      i.0,
-      i.1,
-      ap length nodes ∙ both.0,
-      subst (All (λ no. no < c.self.inside.nodes + 1)) (sym nodes) both.1,
-      subst (All (λ no. no < c.self.inside.callers)) (sym callers) i.4,
-      nodes ∙ below_next c.self.inside.registrar.nodes c.self.inside.nodes c.me-me.result.number next i.5,
-      callers ∙ i.6,
-    )
+    let id = ap (λ (n : Node). n.links.me.id.number) c.newborn-node.ensures ∙ sym (ap (λ (p : Peer). p.id.number) c.me-me.ensures) in
+    let register = ap (λ (a : Assembled). a.register) c.join_node-seat.ensures.admitted
+    ∙ ap (λ n. record old { nodes = old.nodes ++ c.me-me.result.number ∷ []; ids = old.ids ++ n ∷ [] }) id in
+    let items = c.push_reserved.ensures.items ∙ ap (λ (l : List Id). l ++ c.me-me.result.id ∷ []) c.reserve.ensures.items in
+    let now = node_registered old _ c.self.inside.nodes c.self.inside.callers c.me-me.result.number ids c.self.inside.premise c.me-me.result.id i.2 next register in
+    (i.0, i.1, subst (λ (l : List Id). IsRegister (c.self.inside.nodes + 1) c.self.inside.callers l c.self.inside.premise c.join_node-seat.new.self.register) (sym items) now)

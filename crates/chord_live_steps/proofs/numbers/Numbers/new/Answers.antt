@@ -1,15 +1,12 @@
-use Rattle.std.proofs.Common.{◌∙◌, All, length, ap, sym, subst, ◌<◌}
-use Rattle.std.proofs.lemmas.List.Elements.{All-nil}
-use Rattle.chord_live_steps.proofs.Counting.{none_below}
+use Rattle.std.proofs.Common.{◌≡◌, [], List, true, ap, rules, sym, subst}
+use Rattle.chord_ident.specs.declared.id.Id.{Id}
+use Rattle.chord_live_steps.proofs.Counting.{none_registered}
+use Rattle.chord_live_steps.specs.Registered.{IsRegister}
+use Rattle.chord_table.specs.Views.{Assembled, Register}
 use Rattle.chord_live_steps.proofs.numbers.Numbers.new.Goals as goal
 
 pub invariant_of-result : goal.invariant_of-result
-invariant_of-result g c = (
-  c.requires.slots,
-  c.requires.places,
-  ap length c.requires.nodes,
-  subst (All (λ no. no < 0)) (sym c.requires.nodes) (All-nil (λ no. no < 0)),
-  subst (All (λ no. no < 0)) (sym c.requires.callers) (All-nil (λ no. no < 0)),
-  c.requires.nodes ∙ none_below,
-  c.requires.callers ∙ none_below,
-)
+invariant_of-result g c =
+    let empty : c.new.result.items ≡ [] = search rules in
+    let registered = subst (λ (r : Register). IsRegister 0 0 [] true r) (sym (ap (λ (a : Assembled). a.register) c.requires.nobody)) none_registered in
+    (c.requires.slots, c.requires.places, subst (λ (ids : List Id). IsRegister 0 0 ids true c.args.registrar.register) (sym empty) registered)

@@ -1,7 +1,6 @@
-use Rattle.std.proofs.Common.{◌<◌, sym, ◌∙◌, ap, subst, []}
-use Rattle.chord_table.proofs.Keeping.{some_words, look_at}
-use Rattle.chord_table.specs.Seen.{View}
-use Rattle.chord_table.specs.Views.{TableId, view_of, IsTrueOfSome}
+use Rattle.std.proofs.Common.{◌<◌, sym, ap, ◌∙◌, subst}
+use Rattle.chord_table.proofs.Keeping.{some_words, look_at, shown_true}
+use Rattle.chord_table.specs.Views.{TableId, view_of}
 use Rattle.chord_table.proofs.actor_seat.ActorSeat.look.Goals as goal
 
 pub load-requires : goal.load-requires
@@ -14,7 +13,4 @@ load-requires g c =
     )
 
 pub returns-clause-shown : goal.returns-clause-shown
-returns-clause-shown g c =
-    let shown = ap (λ m. m.0) (c.self.invariant.1 ∙ ap (λ s. (view_of s, [])) c.self.view_is) in
-    let (world, reached, true) = subst (λ (v : View). IsTrueOfSome v) shown c.load.ensures.2.1 in
-    record { world = world; reached = reached; there = true.0; messages = true.1 }
+returns-clause-shown g c = shown_true c.self.invariant.1 (ap view_of c.self.view_is) c.load.ensures.2.1

@@ -2,4 +2,4 @@ use Rattle.chord_table.proofs.Telling.{caller_told}
 use Rattle.chord_table.proofs.caller_seat.CallerSeat.look.Goals as goal
 
 pub returns-clause-shown : goal.returns-clause-shown
-returns-clause-shown g c = caller_told c.self.inside.seat c.args.self.now c.self.invariant c.self.view_is c.look.ensures.shown c.headline.ensures
+returns-clause-shown g c = caller_told c.self.inside.seat c.args.self.now c.self.invariant c.self.view_is c.look.ensures.shown c.each_scene_holds.ensures

@@ -1,0 +1,86 @@
+//! The links of all members, while a departure is judged.
+ghost use Rattle.std.specs.Prelude.{◌≡◌, ◌<◌, ◌++◌, ◌∷◌, [], None, IfOk, length};
+ghost use Rattle.chord_live_ring.specs.Departures.{placed};
+
+use chord_links::Links;
+use chord_node::{Node, Phase};
+use chord_store::EntryStore;
+use chord_table::Naming;
+use std::alloc::{AllocError, Global};
+use std::marker::{Model, PhantomData};
+
+/// What the ring has of nodes, by number, with room for all slots. Contracts see the rows.
+#[derive(Drop)]
+pub(crate) struct Board<J: Naming> {
+    rows: Vec<Option<Links>>,
+    of: PhantomData<J>,
+}
+
+impl<J: Naming> Model for Board<J> {
+    ghost use Rattle.std.specs.Prelude.{◌≤◌, vec_capacity};
+    ghost use Rattle.chord_ring.specs.Ring.{Members};
+
+    ghost Value = { Members };
+
+    ghost view = { λ board. board.rows.items };
+
+    ghost invariant = { λ board. J.name.slots ≤ vec_capacity board.rows };
+}
+
+impl<J: Naming> Board<J> {
+    /// No rows, with room for `slots` of them.
+    pub(crate) fn new(alloc: Global, slots: usize) -> Result<Board<J>, AllocError>
+        requires { slots ≡ J.name.slots }
+        ensures { IfOk result (λ board. board ≡ []) }
+    {
+        let rows = Vec::with_capacity(alloc, slots)?;
+        Ok(Board {
+            rows,
+            of: PhantomData,
+        })
+    }
+
+    /// Wipes all rows.
+    pub(crate) fn clear(&mut self)
+        ensures { self.new ≡ [] }
+    {
+        self.rows.clear();
+    }
+
+    /// Posts a node that did not crash.
+    pub(crate) fn post<S: EntryStore>(&mut self, node: &Node<S>)
+        requires { length self.old < J.name.slots }
+        ensures { self.new ≡ self.old ++ placed node.now ∷ [] }
+    {
+        self.rows.push_reserved(place_of(node));
+    }
+
+    /// Posts a node that crashed.
+    pub(crate) fn post_none(&mut self)
+        requires { length self.old < J.name.slots }
+        ensures { self.new ≡ self.old ++ None ∷ [] }
+    {
+        self.rows.push_reserved(None);
+    }
+
+    /// The rows.
+    pub(crate) fn rows(&self) -> &[Option<Links>]
+        ensures { result.now ≡ self.now }
+    {
+        self.rows.as_slice()
+    }
+}
+
+/// What the ring has of a node that did not crash: its links without fingers, unless it is gone.
+fn place_of<S: EntryStore>(node: &Node<S>) -> Option<Links>
+    ensures { result ≡ placed node.now }
+{
+    if node.phase() == Phase::Gone {
+        return None;
+    }
+    let links = node.links();
+    let mut bare = Links::alone(links.me(), links.r());
+    bare.set_predecessor(links.predecessor());
+    bare.set_list(*links.list());
+    Some(bare)
+}

@@ -1,5 +1,0 @@
-use Rattle.chord_table.proofs.Whole.{whole_told}
-use Rattle.chord_table.proofs.assembly.Assembly.look_whole.Goals as goal
-
-pub returns-clause-shown : goal.returns-clause-shown
-returns-clause-shown g c = whole_told _ c.look.ensures.shown c.requires.whole
