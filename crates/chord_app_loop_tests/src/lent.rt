@@ -83,6 +83,12 @@ fn lent_connections_are_answered_and_come_back(rt: HostRuntime) {
             b"+PONG\r\n-ERR Protocol error: invalid multibulk length\r\n",
             Why::Ended(Served::Protocol),
         ),
+        (
+            b"PING\r\nGET / HTTP/1.1\r\nHost: 127.0.0.1\r\n\r\nSADD k m\r\n",
+            false,
+            b"+PONG\r\n",
+            Why::Ended(Served::Foreign),
+        ),
     ] {
         let sent = Sent { bytes, is_all };
         let loan = loan_of(&rt, rt.alloc(), sent, answers);

@@ -20,11 +20,6 @@ abbrev pub read_size : Until → ReadSize
 read_size (until.Connections connections) = Small
 read_size (until.Stopped stop seconds) = Large
 
--- how many of a ring's callers are kept for further connections
-abbrev pub kept_of : ℕ → Until → ℕ
-kept_of callers (until.Connections connections) = 0
-kept_of callers (until.Stopped stop seconds) = callers
-
 -- for how many seconds a client may be idle, if there is a limit
 abbrev pub idle_of : Until → Option ℕ
 idle_of (until.Connections connections) = None

@@ -49,7 +49,7 @@ impl fmt::Display for Ended {
                 let number = code.to_number();
                 write!(f, "malformed {number}")
             }
-            Ended::Served(Served::Protocol) => f.write_str("protocol"),
+            Ended::Served(Served::Protocol | Served::Foreign) => f.write_str("protocol"),
             Ended::Served(Served::Read) | Ended::NotAccepted => f.write_str("read"),
             Ended::Served(Served::Write) => f.write_str("write"),
             Ended::Served(Served::TurnsSpent) => f.write_str("turnsspent"),

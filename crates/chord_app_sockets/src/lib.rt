@@ -2,8 +2,8 @@
 //! [`OperatorPort`]), the open connections ([`Clients`]), how long it waits for each
 //! ([`PatientReader`], [`PatientWriter`]), when a read polls and beside how many others
 //! ([`PollingReader`], [`Pollers`]), how each ends ([`Ended`]) and is closed ([`close_slowly`]),
-//! the lines that it writes ([`Lines`]), when it ends ([`Until`], [`Stop`]), and what its handle
-//! may do ([`Host`]).
+//! the lines that it writes ([`Lines`]), what it does at most once a second ([`OncePerSecond`]), when
+//! it ends ([`Until`], [`Stop`]), and what its handle may do ([`Host`]).
 #![tactic(auto)]
 
 mod clients;
@@ -12,6 +12,7 @@ mod doors;
 mod ended;
 mod host;
 mod lines;
+mod once_per_second;
 mod patience;
 mod poll_habit;
 mod pollers;
@@ -26,6 +27,7 @@ pub use doors::{Door, Doors, Protocol};
 pub use ended::Ended;
 pub use host::Host;
 pub use lines::Lines;
+pub use once_per_second::OncePerSecond;
 pub use patience::{PatientReader, PatientWriter, prepare};
 pub use pollers::Pollers;
 pub use polling::{Pollable, PollingReader};

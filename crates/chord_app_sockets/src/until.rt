@@ -1,6 +1,6 @@
 //! When a server ends.
 ghost use Rattle.std.specs.Prelude.{◌≡◌, true};
-ghost use Rattle.chord_app_sockets.specs.Until.{most_of, turns_of, read_size, kept_of, idle_of, session_seconds, can_be_stopped};
+ghost use Rattle.chord_app_sockets.specs.Until.{most_of, turns_of, read_size, idle_of, session_seconds, can_be_stopped};
 
 use crate::stop::Stop;
 use chord_serve::ReadSize;
@@ -65,13 +65,11 @@ impl<'a> Until<'a> {
         }
     }
 
-    pub fn kept_callers(self, callers: usize) -> usize
-        ensures { result ≡ kept_of callers self.entry }
+    /// Whether a caller serves further connections.
+    pub fn keeps_callers(self) -> bool
+        ensures { result ≡ can_be_stopped self.entry }
     {
-        match self {
-            Until::Connections(_) => 0,
-            Until::Stopped { .. } => callers,
-        }
+        matches!(self, Until::Stopped { .. })
     }
 
     /// For how many seconds a client may be idle, if there is a limit.

@@ -4,4 +4,5 @@ pub mod Reading
 pub mod Spelling
 pub mod Answers
 pub mod Table
+pub mod Foreign
 pub mod Refusals

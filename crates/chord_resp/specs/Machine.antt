@@ -1,12 +1,13 @@
 -- Reading a client's bytes, one at a time. Source: the published RESP specification, version 2; the
 -- limits are our own.
-use Rattle.std.specs.Prelude.{ℕ, ◌+◌, ◌-◌, ◌*◌, Bool, ◌&&◌, not, List, [], ◌∷◌, ◌++◌, length, take, slice_index, nat_lt, nat_le, ◌==◌, if◌then◌else◌, Option, Some, None, Result, Ok, Err}
+use Rattle.std.specs.Prelude.{ℕ, ◌+◌, ◌-◌, ◌*◌, List, [], ◌∷◌, ◌++◌, map, length, take, slice_index, nat_lt, nat_le, ◌==◌, if◌then◌else◌, Option, Some, None, Result, Ok, Err}
 use Rattle.chord_resp.specs.declared.reading.phase.Phase.{Phase}
 use Rattle.chord_resp.specs.declared.reading.phase.Phase.TheVariants as phase
 use Rattle.chord_resp.specs.declared.reading.protocol_error.ProtocolError.{ProtocolError}
-use Rattle.chord_resp.specs.declared.reading.protocol_error.ProtocolError.TheVariants.{BadCount, NoDollar, BadLength, TooLong}
+use Rattle.chord_resp.specs.declared.reading.protocol_error.ProtocolError.TheVariants.{BadCount, NoDollar, BadLength, TooLong, Foreign}
 use Rattle.chord_resp.specs.declared.reading.word.Word.{Word}
 use Rattle.chord_resp.specs.declared.reading.word.Word.TheVariants.{Whole, Long}
+use Rattle.chord_resp.specs.Foreign.{is_foreign}
 
 -- what has come of a command: the words still to come, those that are whole, and the bytes of the
 -- word that is not
@@ -36,41 +37,41 @@ word_of bytes = word_of_length (length bytes) bytes
 
 -- ---- inline commands
 
--- the words, and behind them the bytes as one more word, if there are any
-abbrev pub with_word : List Word → List ℕ → List Word
-with_word words [] = words
-with_word words (byte ∷ bytes) = words ++ word_of (byte ∷ bytes) ∷ []
+-- the bytes as a word, if there are any
+abbrev pub whole_word : List ℕ → List (List ℕ)
+whole_word [] = []
+whole_word (byte ∷ bytes) = (byte ∷ bytes) ∷ []
 
--- the bytes would be the 1,025th word
-abbrev pub has_no_room : List Word → List ℕ → Bool
-has_no_room words bytes = nat_le 1024 (length words) && not (length bytes == 0)
+-- the words of a line whose first word begins with these bytes; spaces part them
+abbrev pub words_from : List ℕ → List ℕ → List (List ℕ)
+words_from word [] = whole_word word
+words_from word (byte ∷ line) = if byte == 32 then whole_word word ++ words_from [] line else words_from (word ++ byte ∷ []) line
+
+-- the words of a line
+abbrev pub words_in : List ℕ → List (List ℕ)
+words_in line = words_from [] line
 
 -- the bytes without a `\r` at their end
 abbrev pub without_return : List ℕ → List ℕ
 without_return bytes = if slice_index bytes (length bytes - 1) == 13 then take (length bytes - 1) bytes else bytes
-
--- a space ends a word
-abbrev pub space_step : State → ℕ → Outcome
-space_step s seen = if has_no_room s.words s.partial then Fails TooLong
-    else Goes (record { phase = phase.Line (seen + 1); wanted = s.wanted; words = with_word s.words s.partial; partial = [] })
 
 -- a line without a word is no command
 abbrev pub line_given : List Word → Outcome
 line_given [] = Goes start
 line_given (word ∷ words) = Gives (word ∷ words)
 
--- the end of a line ends its last word
-abbrev pub line_end : State → Outcome
-line_end s = if has_no_room s.words (without_return s.partial) then Fails TooLong
-    else line_given (with_word s.words (without_return s.partial))
+-- a line of these words is a command, unless it is one of HTTP or has too many words
+abbrev pub line_of : List (List ℕ) → Outcome
+line_of words = if is_foreign words then Fails Foreign
+    else (if nat_lt 1024 (length words) then Fails TooLong else line_given (map word_of words))
 
--- a byte of a line, after this many of its bytes
-abbrev pub line_step : State → ℕ → ℕ → Outcome
-line_step s seen byte =
-    if byte == 10 then line_end s
-    else (if nat_le 65536 seen then Fails TooLong
-    else (if byte == 32 then space_step s seen
-    else Goes (record { phase = phase.Line (seen + 1); wanted = s.wanted; words = s.words; partial = s.partial ++ byte ∷ [] })))
+-- a byte of a line; a byte 0 is none of Redis's protocol
+abbrev pub line_step : State → ℕ → Outcome
+line_step s byte =
+    if byte == 10 then line_of (words_in (without_return s.partial))
+    else (if byte == 0 then Fails Foreign
+    else (if nat_le 65536 (length s.partial) then Fails TooLong
+    else Goes (record { phase = phase.Line; wanted = s.wanted; words = s.words; partial = s.partial ++ byte ∷ [] })))
 
 -- ---- numbers
 
@@ -154,8 +155,8 @@ end_step s count byte = if byte == 10 then word_ended s.wanted (s.words ++ word_
 
 -- a byte in this phase
 abbrev pub step_in : Phase → State → ℕ → Outcome
-step_in phase.Start s byte = if byte == 42 then went s (Ok (phase.Count 0 0)) else line_step s 0 byte
-step_in (phase.Line seen) s byte = line_step s seen byte
+step_in phase.Start s byte = if byte == 42 then went s (Ok (phase.Count 0 0)) else line_step s byte
+step_in phase.Line s byte = line_step s byte
 step_in (phase.Count digits number) s byte = went s (count_step digits number byte)
 step_in (phase.CountEnd number) s byte = count_end_step s number byte
 step_in phase.Mark s byte = went s (mark_step byte)

@@ -63,7 +63,7 @@ is_between r = (length r.bytes == 0) && is_at_start r.state.phase
 -- bytes or words are kept in this phase
 abbrev pub keeps : Phase → ℕ → Bool
 keeps phase.Start byte = not (byte == 42)
-keeps (phase.Line seen) byte = true
+keeps phase.Line byte = true
 keeps (phase.Count digits number) byte = false
 keeps (phase.CountEnd number) byte = false
 keeps phase.Mark byte = false

@@ -24,6 +24,7 @@ protocol_text protocol.BadCount = codes "invalid multibulk length"
 protocol_text (protocol.NoDollar byte) = codes "expected '$', got '" ++ (shown_byte byte ∷ [] ++ codes "'")
 protocol_text protocol.BadLength = codes "invalid bulk length"
 protocol_text protocol.TooLong = codes "too big inline request"
+protocol_text protocol.Foreign = codes "line of another protocol"
 
 -- how many members were done, if there are several
 unfoldable pub progress_text : Progress → List ℕ
@@ -42,7 +43,6 @@ fixed_text refusal.NoProtocol = codes "NOPROTO unsupported protocol version"
 fixed_text (refusal.SetFull progress) = codes "ERR set is full: it has 1000 members"
 fixed_text (refusal.StoreFull progress) = codes "OOM the node's store is full"
 fixed_text (refusal.NoAnswer progress) = codes "TRYAGAIN no answer in time, it may have acted"
-fixed_text refusal.Unsettled = codes "TRYAGAIN an earlier request is not settled"
 
 -- what is told behind it
 abbrev pub detail : Refusal → List ℕ

@@ -58,14 +58,19 @@ unfoldable pub is_text : Word → List ℕ → Bool
 is_text (Whole bytes) text = str_eq_ignore_ascii_case bytes text
 is_text (Long count) text = false
 
--- the first of these that the word names
-abbrev pub first_named : Word → List Verb → Option Verb
-first_named word [] = None
-first_named word (v ∷ vs) = if is_text word (verb_text v) then Some v else first_named word vs
+-- the first of these whose name the bytes are, in upper or lower case
+abbrev pub first_named : List ℕ → List Verb → Option Verb
+first_named bytes [] = None
+first_named bytes (v ∷ vs) = if str_eq_ignore_ascii_case bytes (verb_text v) then Some v else first_named bytes vs
+
+-- the one that the bytes name
+unfoldable pub verb_named : List ℕ → Option Verb
+verb_named bytes = first_named bytes all_verbs
 
 -- the one that the word names
-unfoldable pub verb_of : Word → Option Verb
-verb_of word = first_named word all_verbs
+abbrev pub verb_of : Word → Option Verb
+verb_of (Whole bytes) = verb_named bytes
+verb_of (Long count) = None
 
 -- how many words may follow a name
 abbrev pub takes : Verb → ℕ → Bool

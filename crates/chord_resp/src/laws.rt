@@ -1,8 +1,9 @@
 //! What holds of all streams. These functions have no code; their contracts are the laws.
 ghost use Rattle.std.specs.Prelude.{◌≡◌, ◌++◌, ◌∷◌, [], List, ℕ, map};
-ghost use Rattle.chord_resp.specs.Machine.{State, start, word_of};
-ghost use Rattle.chord_resp.specs.Reading.{reading, with_commands, with_more};
-ghost use Rattle.chord_resp.specs.Spelling.{AreInline, AreWords, array, inline};
+ghost use Rattle.chord_resp.specs.Machine.{State, line_of, start, without_return, word_of, words_in};
+ghost use Rattle.chord_resp.specs.Reading.{Broken, after, reading, with_commands, with_more};
+ghost use Rattle.chord_resp.specs.Spelling.{AreInline, AreWords, IsLine, array, inline};
+ghost use Rattle.chord_resp.specs.declared.reading.protocol_error.ProtocolError.TheVariants.{Foreign};
 
 /// How a stream was cut does not matter: what the bytes spell and how they
 /// end stays, and more bytes go on from there.
@@ -15,7 +16,17 @@ pub fn arrays_are_read()
     ensures { (words : List (List ℕ)) (rest : List ℕ) → AreWords words → reading start (array words ++ rest) ≡ with_commands (map word_of words ∷ []) (reading start rest) }
 {}
 
-/// The words of an inline command are read, whatever follows.
+/// A line is read as its words, or refused as one of HTTP, whatever follows.
+pub fn lines_are_read()
+    ensures { (line rest : List ℕ) → IsLine line → reading start (line ++ 10 ∷ rest) ≡ after (line_of (words_in (without_return line))) (λ s. reading s rest) }
+{}
+
+/// A line with a byte 0 is refused there.
+pub fn lines_with_a_byte_0_are_refused()
+    ensures { (front rest : List ℕ) → IsLine front → reading start (front ++ 0 ∷ rest) ≡ record { commands = []; ending = Broken Foreign } }
+{}
+
+/// The words of an inline command with single spaces are read, whatever follows.
 pub fn inline_commands_are_read()
     ensures { (word : List ℕ) (words : List (List ℕ)) (rest : List ℕ) → AreInline word words → reading start (inline word words ++ rest) ≡ with_commands ((word_of word ∷ map word_of words) ∷ []) (reading start rest) }
 {}

@@ -1,4 +1,5 @@
 pub mod commands;
+mod foreign;
 mod line;
 mod machine;
 mod numbers;

@@ -53,16 +53,14 @@ module _ {A : Type 0} (answers : A → Question → Asked → A → Type 0) (abo
     | inl some ↦ joins_extends result old new _ some.1
     | inr none ↦ same_extends old new none.1
   ]
-  command_extends c n n' a a' result old new (inr (inl p)) = tells_of_extends _ result old new p.told
-  command_extends c n n' a a' result old new (inr (inr p)) = tells_extends about c p.outcome result old new p.told
+  command_extends c n n' a a' result old new (inr p) = tells_extends about c p.outcome result old new p.told
 
   command_same : (c : Command) (n n' : Numbers) (a a' : A) (refused : AllocError) (old new : List ℕ) → AnswersCommand answers about c n a (Err refused) old new n' a' → new ≡ old
   command_same c n n' a a' refused old new (inl p) = elim p.told [
     | inl some ↦ some.1
     | inr none ↦ none.1
   ]
-  command_same c n n' a a' refused old new (inr (inl p)) = tells_of_same _ refused old new p.told
-  command_same c n n' a a' refused old new (inr (inr p)) = tells_same about c p.outcome refused old new p.told
+  command_same c n n' a a' refused old new (inr p) = tells_same about c p.outcome refused old new p.told
 
   table_extends : (t : Result Command Refusal) (n n' : Numbers) (a a' : A) (result : Result Flow AllocError) (old new : List ℕ) → AnswersTable answers t about n a result old new n' a' → Extends old new
   table_extends (Ok c) n n' a a' result old new p = command_extends c n n' a a' p.0 old new p.1

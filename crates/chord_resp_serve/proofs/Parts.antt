@@ -12,7 +12,7 @@ use Rattle.chord_resp.specs.Machine.{State}
 use Rattle.chord_resp.specs.Reading.{Reading, with_commands, with_more}
 use Rattle.chord_resp.proofs.ReadingLaws.{cut}
 use Rattle.chord_resp_serve.specs.declared.numbers.Numbers.{Numbers}
-use Rattle.chord_resp_serve.specs.Connections.{open_at, AnswersSome, AnswersWhole, IsEnded, WritesPart, IsAnswered, GoesOnOr}
+use Rattle.chord_resp_serve.specs.Connections.{open_at, AnswersSome, AnswersWhole, IsEnded, RefusesBytes, WritesPart, IsAnswered, GoesOnOr}
 use Rattle.chord_resp_serve.proofs.Sessions.{commands_then, each_then, more_behind, nothing_answered, answered_or}
 
 module _ {A : Type 0} (answers : A → Question → Asked → A → Type 0) (tells : List ℕ → Type 0) (number : ℕ) (s t : State) (n m : Numbers) (a b : A) (i o : List ℕ)
@@ -31,14 +31,19 @@ module _ {A : Type 0} (answers : A → Question → Asked → A → Type 0) (tel
   whole_then : (i' o' : List ℕ) (state : State) (c : A) → AnswersWhole answers tells number t m b i' o' state c → AnswersWhole answers tells number s n a (i ++ i') (o ++ o') state c
   whole_then i' o' state c q = record { numbers = q.numbers; some = some_then i' o' (open_at state) q.numbers c q.some }
 
-  ended_then : (end : Served) (i' o' : List ℕ) (c : A) → IsEnded answers tells number t end m b i' o' c → IsEnded answers tells number s end n a (i ++ i') (o ++ o') c
-  ended_then served.Protocol i' o' c q = record {
+  refused_then : (end : Served) (i' o' : List ℕ) (c : A) → RefusesBytes answers tells number t end m b i' o' c → RefusesBytes answers tells number s end n a (i ++ i') (o ++ o') c
+  refused_then end i' o' c q = record {
     error = q.error;
+    end_is = q.end_is;
     said = o ++ q.said;
     numbers = q.numbers;
     some = some_then i' q.said _ q.numbers c q.some;
     output_is = behind o' q.said _ q.output_is;
   }
+
+  ended_then : (end : Served) (i' o' : List ℕ) (c : A) → IsEnded answers tells number t end m b i' o' c → IsEnded answers tells number s end n a (i ++ i') (o ++ o') c
+  ended_then served.Protocol i' o' c q = refused_then served.Protocol i' o' c q
+  ended_then served.Foreign i' o' c q = refused_then served.Foreign i' o' c q
   ended_then served.Quit i' o' c q = record {
     words = q.words;
     next = q.next;
@@ -76,6 +81,7 @@ module _ {A : Type 0} (answers : A → Question → Asked → A → Type 0) (tel
   answered_then served.TurnsSpent i' o' c q = (q.0, whole_then i' o' q.0 c q.1)
   answered_then served.Write i' o' c q = written_then i' o' c q
   answered_then served.Protocol i' o' c q = ended_then served.Protocol i' o' c q
+  answered_then served.Foreign i' o' c q = ended_then served.Foreign i' o' c q
   answered_then served.Quit i' o' c q = ended_then served.Quit i' o' c q
   answered_then served.Memory i' o' c q = ended_then served.Memory i' o' c q
   answered_then (served.Malformed code) i' o' c q = absurd q

@@ -14,7 +14,7 @@ use Rattle.chord_resp.specs.Reading.{Reading, Reader, Ending, Open, Broken, read
 use Rattle.chord_resp.proofs.ReadingLaws.{cut, nothing_read}
 use Rattle.chord_resp_serve.specs.declared.flow.Flow.TheVariants as flow
 use Rattle.chord_resp_serve.specs.declared.numbers.Numbers.{Numbers}
-use Rattle.chord_resp_serve.specs.Connections.{open_at, broken_by, AnswersOne, AnswersEach, AnswersSome, AnswersWhole, AsksNext, RunsOut, IsEnded, WritesPart, IsAnswered, GoesOnOr}
+use Rattle.chord_resp_serve.specs.Connections.{open_at, broken_by, AnswersOne, AnswersEach, AnswersSome, AnswersWhole, AsksNext, RefusesBytes, RunsOut, TellsError, IsEnded, WritesPart, IsAnswered, GoesOnOr}
 use Rattle.chord_resp_serve.proofs.Steps.{Fed, One, Stop, Quiet, more_nothing}
 
 -- commands before commands
@@ -107,18 +107,21 @@ module _ {A D H : Type 0} (answers : A → Question → Asked → A → Type 0) 
         let e : reading_of (reader d) ≡ open_at (reader d).state = ap (reading (reader d).state) p.quiet ∙ nothing_read (reader d).state in
         record { numbers = numbers d; some = subst (λ (r : Reading). AnswersSome answers Told (number (host c)) s (numbers c) (asker c) i o r (numbers d) (asker d)) e (some d i o p.talked) }
 
+    refused : (end : Served) (m d : D) (i o said bytes : List ℕ) → Talks Hear Step c i said m → TellsError answers (tells (host m)) (number (host m)) end (reading_of (reader m)) (asker m) bytes (asker d) → o ≡ said ++ bytes
+        → RefusesBytes answers Told (number (host c)) s end (numbers c) (asker c) i o (asker d)
+    refused end m d i o said bytes talked stop output_is = record {
+      error = stop.error;
+      end_is = stop.end_is;
+      said = said;
+      numbers = numbers m;
+      some = subst (λ (a : A). AnswersSome answers Told (number (host c)) s (numbers c) (asker c) i said (broken_by stop.error) (numbers m) a) (sym stop.asker)
+          (subst (λ (r : Reading). AnswersSome answers Told (number (host c)) s (numbers c) (asker c) i said r (numbers m) (asker m)) stop.next_is (some m i said talked));
+      output_is = output_is ∙ ap (λ (x : List ℕ). said ++ x) stop.bytes_are;
+    }
+
     stopped : (end : Served) (d : D) (i o : List ℕ) → IsStopped Hear Step End Rest end c i o d → IsEnded answers Told (number (host c)) s end (numbers c) (asker c) i o (asker d)
-    stopped served.Protocol d i o p =
-        let m = p.before in
-        let stop = p.stopped in
-        record {
-          error = stop.error;
-          said = p.said;
-          numbers = numbers m;
-          some = subst (λ (a : A). AnswersSome answers Told (number (host c)) s (numbers c) (asker c) i p.said (broken_by stop.error) (numbers m) a) (sym stop.asker)
-              (subst (λ (r : Reading). AnswersSome answers Told (number (host c)) s (numbers c) (asker c) i p.said r (numbers m) (asker m)) stop.next_is (some m i p.said p.talked));
-          output_is = p.output_is ∙ ap (λ (x : List ℕ). p.said ++ x) stop.bytes_are;
-        }
+    stopped served.Protocol d i o p = refused served.Protocol p.before d i o p.said p.bytes p.talked p.stopped p.output_is
+    stopped served.Foreign d i o p = refused served.Foreign p.before d i o p.said p.bytes p.talked p.stopped p.output_is
     stopped served.Quit d i o p =
         let m = p.before in
         let stop = p.stopped in
@@ -177,6 +180,7 @@ module _ {A D H : Type 0} (answers : A → Question → Asked → A → Type 0) 
     conversed served.Memory d i o (inl stop) = stopped served.Memory d i o stop
     conversed served.Memory d i o (inr gone) = lost d i o gone
     conversed served.Protocol d i o p = stopped served.Protocol d i o p
+    conversed served.Foreign d i o p = stopped served.Foreign d i o p
     conversed served.Quit d i o p = stopped served.Quit d i o p
     conversed (served.Malformed code) d i o p = stopped (served.Malformed code) d i o p
 
@@ -220,6 +224,7 @@ on_over served.TurnsSpent goes_on is_over not_spent not_read p = absurd (not_spe
 on_over served.Write goes_on is_over not_spent not_read p = p
 on_over served.Memory goes_on is_over not_spent not_read p = p
 on_over served.Protocol goes_on is_over not_spent not_read p = p
+on_over served.Foreign goes_on is_over not_spent not_read p = p
 on_over served.Quit goes_on is_over not_spent not_read p = p
 on_over (served.Malformed code) goes_on is_over not_spent not_read p = p
 
@@ -233,6 +238,7 @@ answered_or answers tells number from to n n' a a' i o same served.TurnsSpent p 
 answered_or answers tells number from to n n' a a' i o same served.Write p = p
 answered_or answers tells number from to n n' a a' i o same served.Memory p = p
 answered_or answers tells number from to n n' a a' i o same served.Protocol p = p
+answered_or answers tells number from to n n' a a' i o same served.Foreign p = p
 answered_or answers tells number from to n n' a a' i o same served.Quit p = p
 answered_or answers tells number from to n n' a a' i o same (served.Malformed code) p = p
 

@@ -84,6 +84,7 @@ module _ {A D H : Type 0} (answers : A → Question → Asked → A → Type 0) 
   next_answered (Err served.Memory) c d words old new e same p =
       ([], record { bytes_are = refl; last = lost c words (numbers d) (asker d) (reading_of (reader d)) e p.1 }, p.0 ∙ sym (append-nil old))
   next_answered (Err served.Protocol) c d words old new e same p = absurd p
+  next_answered (Err served.Foreign) c d words old new e same p = absurd p
   next_answered (Err served.Write) c d words old new e same p = absurd p
   next_answered (Err (served.Malformed code)) c d words old new e same p = absurd p
   next_answered (Err served.Ended) c d words old new e same p = absurd p

@@ -18,7 +18,7 @@ use Rattle.chord_resp_serve.specs.declared.numbers.Numbers.{Numbers}
 use Rattle.chord_resp_serve.specs.declared.tally.Tally.{Tally}
 use Rattle.chord_resp_serve.specs.declared.tally.Stopped.{Stopped}
 use Rattle.chord_resp_serve.specs.declared.tally.Stopped.TheVariants as stopped
-use Rattle.chord_resp_serve.specs.Asking.{requests_of, empty_tally, AsksFrom, Settles}
+use Rattle.chord_resp_serve.specs.Asking.{requests_of, empty_tally, AsksFrom}
 
 -- the values of the last reply
 abbrev pub values_in : Option Reply → List (List ℕ)
@@ -84,25 +84,13 @@ module _ {A : Type 0} (answers : A → Question → Asked → A → Type 0) wher
     pub asker : a' ≡ a
     pub told : ((requests_of c ≡ []) × Joins result old new (answer_of about c empty_tally)) ⊎ (IsErr result × (new ≡ old))
 
-  -- the request that was pending was sent again, and is not answered
-  pub record StaysPending (c : Command) (n : Numbers) (a : A) (result : Result (Unit {0}) AllocError) (old new : List ℕ) (n' : Numbers) (a' : A) : Type 0 where
-    pub asks : requests_of c ≢ []
-    pub settled : Result Bool AllocError
-    pub settles : Settles answers n a settled n' a'
-    pub not_answered : settled ≢ Ok true
-    pub told : TellsOf (if is_ok settled then Some refusal.Unsettled else None) result old new
-
-  -- nothing is pending any more, and the command's requests were asked
+  -- the command's requests were asked
   pub record AsksAll (about : About) (c : Command) (n : Numbers) (a : A) (result : Result (Unit {0}) AllocError) (old new : List ℕ) (n' : Numbers) (a' : A) : Type 0 where
     pub asks : requests_of c ≢ []
-    pub between : Numbers
-    pub asker : A
-    pub settles : Settles answers n a (Ok true) between asker
     pub outcome : Result Tally Stopped
-    pub asked : AsksFrom answers between asker empty_tally (requests_of c) outcome n' a'
+    pub asked : AsksFrom answers n a empty_tally (requests_of c) outcome n' a'
     pub told : Tells about c outcome result old new
 
   -- what a command asks, each question once and in order, and what is added to the output
   abbrev pub AnswersCommand : About → Command → Numbers → A → Result (Unit {0}) AllocError → List ℕ → List ℕ → Numbers → A → Type 0
-  AnswersCommand about c n a result old new n' a' =
-      AsksNothing about c n a result old new n' a' ⊎ StaysPending c n a result old new n' a' ⊎ AsksAll about c n a result old new n' a'
+  AnswersCommand about c n a result old new n' a' = AsksNothing about c n a result old new n' a' ⊎ AsksAll about c n a result old new n' a'

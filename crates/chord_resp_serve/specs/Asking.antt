@@ -7,7 +7,7 @@ use Rattle.chord_map.specs.declared.reply.Reply.{Reply}
 use Rattle.chord_map.specs.declared.reply.Reply.TheVariants as reply
 use Rattle.chord_serve.specs.declared.asker.Asked.{Asked}
 use Rattle.chord_serve.specs.declared.asker.Asked.TheVariants as asked
-use Rattle.chord_serve.specs.Question.{Question, Ask, Retry}
+use Rattle.chord_serve.specs.Question.{Question, Ask}
 use Rattle.chord_resp.specs.declared.table.command.Command.{Command}
 use Rattle.chord_resp.specs.declared.table.command.Command.TheVariants as command
 use Rattle.chord_resp_serve.specs.declared.numbers.Numbers.{Numbers}
@@ -82,16 +82,9 @@ outcome_of (Err s) t = Err s
 abbrev pub next_number : ℕ → ℕ
 next_number asked = min (asked + 1) (2 ^ 64 - 1)
 
--- what is pending after an answer to the request of this number
-abbrev pub pending_after : ℕ → Asked → Option ℕ → Option ℕ
-pending_after number (asked.Reply r) pending = pending
-pending_after number asked.Full pending = Some number
-pending_after number asked.NoAnswer pending = Some number
-pending_after number asked.Memory pending = pending
-
--- one more request was asked and got this answer
-abbrev pub asked_one : Numbers → Asked → Numbers
-asked_one n answer = record { asked = next_number n.asked; pending = pending_after (next_number n.asked) answer n.pending }
+-- one more request was asked
+abbrev pub asked_one : Numbers → Numbers
+asked_one n = record { asked = next_number n.asked }
 
 module _ {A : Type 0} (answers : A → Question → Asked → A → Type 0) where
   -- after this tally: the other requests are asked, or the command has ended
@@ -100,23 +93,9 @@ module _ {A : Type 0} (answers : A → Question → Asked → A → Type 0) wher
   AsksOn more (Err s) n a result n' a' = (result ≡ Err s) × (n' ≡ n) × (a' ≡ a)
 
   -- The requests are asked once each and in order, up to the first that is not done; with what
-  -- their answers come to, and the numbers afterwards.
+  -- their answers come to, and the numbers afterwards. Whatever was asked before was told, so each
+  -- gives up all requests before it that have no reply.
   abbrev pub AsksFrom : Numbers → A → Tally → List Request → Result Tally Stopped → Numbers → A → Type 0
   AsksFrom n a t [] result n' a' = (result ≡ Ok t) × (n' ≡ n) × (a' ≡ a)
-  AsksFrom n a t (r ∷ rest) result n' a' = (answer : Asked) × (b : A) × answers a (Ask r) answer b
-      × AsksOn (λ u. AsksFrom (asked_one n answer) b u rest result n' a') (heard t answer) (asked_one n answer) b result n' a'
-
-  -- what came of the request that was pending
-  abbrev pub SettledBy : Asked → Numbers → Result Bool AllocError → Numbers → Type 0
-  SettledBy (asked.Reply r) n result n' = (result ≡ Ok true) × (n' ≡ record { asked = n.asked; pending = None })
-  SettledBy asked.Full n result n' = (result ≡ Ok false) × (n' ≡ n)
-  SettledBy asked.NoAnswer n result n' = (result ≡ Ok false) × (n' ≡ n)
-  SettledBy asked.Memory n result n' = (IsErr result) × (n' ≡ n)
-
-  -- the request that was pending, if there was one, is sent again
-  abbrev pub SettlesPending : Option ℕ → Numbers → A → Result Bool AllocError → Numbers → A → Type 0
-  SettlesPending None n a result n' a' = (result ≡ Ok true) × (n' ≡ n) × (a' ≡ a)
-  SettlesPending (Some number) n a result n' a' = (answer : Asked) × answers a (Retry number) answer a' × SettledBy answer n result n'
-
-  abbrev pub Settles : Numbers → A → Result Bool AllocError → Numbers → A → Type 0
-  Settles n a result n' a' = SettlesPending n.pending n a result n' a'
+  AsksFrom n a t (r ∷ rest) result n' a' = (answer : Asked) × (b : A) × answers a (Ask r n.asked) answer b
+      × AsksOn (λ u. AsksFrom (asked_one n) b u rest result n' a') (heard t answer) (asked_one n) b result n' a'

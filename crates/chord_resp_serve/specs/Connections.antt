@@ -6,6 +6,7 @@ use Rattle.chord_serve.specs.declared.served.Served.{Served}
 use Rattle.chord_serve.specs.declared.served.Served.TheVariants as served
 use Rattle.chord_serve.specs.Question.{Question}
 use Rattle.chord_resp.specs.declared.reading.protocol_error.ProtocolError.{ProtocolError}
+use Rattle.chord_resp.specs.declared.reading.protocol_error.ProtocolError.TheVariants as protocol
 use Rattle.chord_resp.specs.declared.reading.word.Word.{Word}
 use Rattle.chord_resp.specs.declared.table.refusal.Refusal.TheVariants as refusal
 use Rattle.chord_resp.specs.declared.table.verb.Verb.TheVariants as verb
@@ -22,7 +23,7 @@ use Rattle.chord_resp_serve.specs.Words.{AnswersWords}
 
 -- a connection before its first request
 abbrev pub first_numbers : Numbers
-first_numbers = record { asked = 0; pending = None }
+first_numbers = record { asked = 0 }
 
 -- whether the words are those of INFO
 abbrev pub asks_info : List Word → Bool
@@ -37,9 +38,15 @@ open_at s = record { commands = []; ending = Open s }
 abbrev pub broken_by : ProtocolError → Reading
 broken_by e = record { commands = []; ending = Broken e }
 
--- the answer to such bytes
+-- the answer to such bytes; those of another protocol get none
 abbrev pub protocol_answer : ProtocolError → List ℕ
+protocol_answer protocol.Foreign = []
 protocol_answer e = error (refusal_text (refusal.Protocol e))
+
+-- how such bytes end the connection
+abbrev pub end_at : ProtocolError → Served
+end_at protocol.Foreign = served.Foreign
+end_at e = served.Protocol
 
 module _ {A : Type 0} (answers : A → Question → Asked → A → Type 0) (tells : List ℕ → Type 0) (number : ℕ) where
   -- what a command knows of its server: the number of the connection, and INFO also a text that the
@@ -83,9 +90,10 @@ module _ {A : Type 0} (answers : A → Question → Asked → A → Type 0) (tel
     pub numbers : Numbers
     pub some : AnswersSome n a input output (open_at state) numbers a'
 
-  -- bytes that are no command are told, behind the answers to those before them
-  pub record RefusesBytes (n : Numbers) (a : A) (input output : List ℕ) (a' : A) : Type 0 where
+  -- bytes that are no command are told, behind the answers to the commands before them
+  pub record RefusesBytes (end : Served) (n : Numbers) (a : A) (input output : List ℕ) (a' : A) : Type 0 where
     pub error : ProtocolError
+    pub end_is : end ≡ end_at error
     pub said : List ℕ
     pub numbers : Numbers
     pub some : AnswersSome n a input said (broken_by error) numbers a'
@@ -114,7 +122,8 @@ module _ {A : Type 0} (answers : A → Question → Asked → A → Type 0) (tel
 
   -- a command, or bytes that are none, ended the connection
   abbrev pub IsEnded : Served → Numbers → A → List ℕ → List ℕ → A → Type 0
-  IsEnded served.Protocol n a input output a' = RefusesBytes n a input output a'
+  IsEnded served.Protocol n a input output a' = RefusesBytes served.Protocol n a input output a'
+  IsEnded served.Foreign n a input output a' = RefusesBytes served.Foreign n a input output a'
   IsEnded served.Quit n a input output a' = Quits n a input output a'
   IsEnded served.Memory n a input output a' = RunsOut n a input output a'
   IsEnded end n a input output a' = ⊥
@@ -151,8 +160,9 @@ GoesOnOr end goes_on is_over = is_over
 -- after, and with these bytes
 module _ {A : Type 0} (answers : A → Question → Asked → A → Type 0) (tells : List ℕ → Type 0) (number : ℕ) where
   -- the error is told
-  pub record TellsError (next : Reading) (a : A) (bytes : List ℕ) (a' : A) : Type 0 where
+  pub record TellsError (end : Served) (next : Reading) (a : A) (bytes : List ℕ) (a' : A) : Type 0 where
     pub error : ProtocolError
+    pub end_is : end ≡ end_at error
     pub next_is : next ≡ broken_by error
     pub asker : a' ≡ a
     pub bytes_are : bytes ≡ protocol_answer error
@@ -171,15 +181,17 @@ module _ {A : Type 0} (answers : A → Question → Asked → A → Type 0) (tel
     pub last : (a' ≡ a) ⊎ AsksNext answers tells number next n a a'
 
   abbrev pub StopsSo : Served → Reading → Numbers → A → List ℕ → A → Type 0
-  StopsSo served.Protocol next n a bytes a' = TellsError next a bytes a'
+  StopsSo served.Protocol next n a bytes a' = TellsError served.Protocol next a bytes a'
+  StopsSo served.Foreign next n a bytes a' = TellsError served.Foreign next a bytes a'
   StopsSo served.Quit next n a bytes a' = AnswersQuit next n a bytes a'
   StopsSo served.Memory next n a bytes a' = TellsNothing next n a bytes a'
   StopsSo end next n a bytes a' = ⊥
 
 -- the error was added to what is due, or there was no memory for it
 abbrev pub TellsProtocol : ProtocolError → Served → List ℕ → List ℕ → Type 0
-TellsProtocol e served.Protocol old new = new ≡ old ++ protocol_answer e
-TellsProtocol e served.Memory old new = new ≡ old
+TellsProtocol e served.Protocol old new = (served.Protocol ≡ end_at e) × (new ≡ old ++ protocol_answer e)
+TellsProtocol e served.Foreign old new = (served.Foreign ≡ end_at e) × (new ≡ old)
+TellsProtocol e served.Memory old new = (served.Protocol ≡ end_at e) × (new ≡ old)
 TellsProtocol e end old new = ⊥
 
 module _ {A : Type 0} (answers : A → Question → Asked → A → Type 0) (tells : List ℕ → Type 0) (number : ℕ) where

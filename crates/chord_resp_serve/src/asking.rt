@@ -1,26 +1,14 @@
 //! The requests of a command, one by one.
 ghost use Rattle.std.specs.Prelude.{◌≡◌, ◌≤◌, ◌<◌, ◌+◌, ◌^◌, length};
-ghost use Rattle.chord_resp_serve.specs.Asking.{asked_one, outcome_of, AsksFrom};
+ghost use Rattle.chord_resp_serve.specs.Asking.{outcome_of, AsksFrom};
 
 use crate::numbers::Numbers;
 use crate::tally::{Stopped, Tally};
 use chord_map::Request;
-use chord_serve::{Asked, Asker};
+use chord_serve::Asker;
 
-impl Numbers {
-    // One more request was asked, and got this answer.
-    fn note(&mut self, answer: &Asked)
-        ensures { self.new ≡ asked_one self.old answer.now }
-    {
-        self.asked = self.asked.saturating_add(1);
-        match answer {
-            Asked::Full | Asked::NoAnswer => self.pending = Some(self.asked),
-            Asked::Reply(_) | Asked::Memory => {}
-        }
-    }
-}
-
-/// Asks the requests in order, up to the first that is not done, and tallies the answers.
+/// Asks the requests in order, up to the first that is not done, and tallies the answers. Each gives
+/// up those before it that have no reply: their errors were told.
 pub fn ask_each<A: Asker>(
     asker: &mut A,
     numbers: &mut Numbers,
@@ -34,8 +22,8 @@ pub fn ask_each<A: Asker>(
     match requests {
         [] => Ok(()),
         [request, rest @ ..] => {
-            let answer = asker.ask(request);
-            numbers.note(&answer);
+            let answer = asker.ask(request, numbers.asked);
+            numbers.asked = numbers.asked.saturating_add(1);
             match tally.hear(answer) {
                 Ok(()) => ask_each(asker, numbers, rest, tally),
                 Err(stopped) => Err(stopped),

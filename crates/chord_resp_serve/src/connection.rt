@@ -53,10 +53,14 @@ fn info_for<I: Informs>(alloc: Global, source: &I, words: &Words) -> Result<Vec<
     }
 }
 
-/// Tells that the bytes are no command.
+/// Tells that the bytes are no command, unless they are of another protocol: whoever made a browser
+/// write those is told nothing.
 fn tell_error(alloc: Global, due: &mut Due, error: ProtocolError) -> Served
     ensures { TellsProtocol error result due.old due.new }
 {
+    if error == ProtocolError::Foreign {
+        return Served::Foreign;
+    }
     match put_refusal(alloc, &mut due.bytes, &Refusal::Protocol(error)) {
         Ok(()) => Served::Protocol,
         Err(_) => Served::Memory,
@@ -73,10 +77,7 @@ impl<'i, A, I> RespConnection<'i, A, I> {
     {
         RespConnection {
             commands: Commands::new(alloc),
-            numbers: Numbers {
-                asked: 0,
-                pending: None,
-            },
+            numbers: Numbers { asked: 0 },
             server,
             asker,
         }

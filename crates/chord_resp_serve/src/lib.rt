@@ -1,8 +1,8 @@
 //! Redis's commands as questions to an asker.
 //!
 //! [`answer_words`] does what the words of a command call for: it asks its requests, each once and
-//! in order, and adds the answer to the output. A request that got no reply is sent again before
-//! the connection's next question.
+//! in order, and adds the answer to the output. A request that got no reply is given up when the
+//! next one is asked.
 #![tactic(auto)]
 
 mod about;
@@ -16,7 +16,6 @@ mod numbers;
 mod one_command;
 mod requests;
 mod session;
-mod settling;
 mod tally;
 mod waiting;
 mod words;

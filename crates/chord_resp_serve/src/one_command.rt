@@ -8,9 +8,8 @@ use crate::answer::put_answer;
 use crate::asking::ask_each;
 use crate::numbers::Numbers;
 use crate::requests::requests_of;
-use crate::settling::settle;
 use crate::tally::{Stopped, Tally};
-use chord_resp::{Command, Refusal, put_refusal};
+use chord_resp::{Command, put_refusal};
 use chord_serve::Asker;
 use std::alloc::{AllocError, Global};
 
@@ -36,9 +35,8 @@ fn tell(
     }
 }
 
-/// Asks the requests of a command, and adds its answer to the output. If a request got no reply
-/// before, it is sent again first, and the command is refused if it still gets none.
-/// At an error memory ran out, and nothing is added.
+/// Asks the requests of a command, and adds its answer to the output. At an error memory ran out, and
+/// nothing is added.
 pub fn answer_command<A: Asker>(
     alloc: Global,
     asker: &mut A,
@@ -54,9 +52,6 @@ pub fn answer_command<A: Asker>(
     let mut tally = Tally::new();
     if requests.is_empty() {
         return put_answer(alloc, out, about, command, &tally);
-    }
-    if !settle(asker, numbers)? {
-        return put_refusal(alloc, out, &Refusal::Unsettled);
     }
     let outcome = ask_each(asker, numbers, requests, &mut tally);
     tell(alloc, out, about, command, requests.len(), &tally, outcome)

@@ -102,6 +102,7 @@ module _ {A : Type 0} (answers : A → Question → Asked → A → Type 0) wher
   refused_ends served.Read f o v s a bytes old new refused w = absurd w
   refused_ends served.TurnsSpent f o v s a bytes old new refused w = absurd w
   refused_ends served.Protocol f o v s a bytes old new refused w = absurd w
+  refused_ends served.Foreign f o v s a bytes old new refused w = absurd w
   refused_ends served.Quit f o v s a bytes old new refused w = absurd w
 
   pub closed_ends : (end : Served) (o : Bool) (v : Option ℕ) (s : SessionState) (a : A) (bytes old new : List ℕ) → ClosesNext o bytes → TellsClosed end old new → EndsSo end o v s a bytes old new (parted.Over a)
@@ -114,6 +115,7 @@ module _ {A : Type 0} (answers : A → Question → Asked → A → Type 0) wher
   closed_ends served.Read o v s a bytes old new closed w = absurd w
   closed_ends served.TurnsSpent o v s a bytes old new closed w = absurd w
   closed_ends served.Protocol o v s a bytes old new closed w = absurd w
+  closed_ends served.Foreign o v s a bytes old new closed w = absurd w
 
   pub step_ends : (refused : AllocError) (o : Bool) (v : Option ℕ) (s t : SessionState) (a b : A) (r : WireRequest) (bytes rest old new : List ℕ) → next_request bytes ≡ Ok (Some (r, rest)) → is_other v r.version ≡ false → Deals answers (Err refused) s a r old new t b
       → EndsSo served.Memory o v s a bytes old new (parted.Over b)
@@ -187,6 +189,7 @@ module _ {A : Type 0} (answers : A → Question → Asked → A → Type 0) wher
       )
   served_after served.Memory o v w s t a b left bytes first rest second p q = stops_after o v w s t a b left bytes first rest second p q
   served_after served.Protocol o v w s t a b left bytes first rest second p q = absurd q
+  served_after served.Foreign o v w s t a b left bytes first rest second p q = absurd q
 
   -- ---- the output is written
 
@@ -206,3 +209,4 @@ module _ {A : Type 0} (answers : A → Question → Asked → A → Type 0) wher
   prefix_served served.Write o v s a left bytes whole prefix rest e p = (p.0, rest ++ p.1, p.2 ∙ ap (λ (ys : List ℕ). ys ++ p.1) e ∙ append_assoc prefix rest p.1, p.3)
   prefix_served served.Memory o v s a left bytes whole prefix rest e p = (whole, rest, e, inl p)
   prefix_served served.Protocol o v s a left bytes whole prefix rest e p = absurd p
+  prefix_served served.Foreign o v s a left bytes whole prefix rest e p = absurd p

@@ -16,6 +16,7 @@ use Rattle.chord_serve.proofs.BytesRead.{empty_if}
 pub stop_ends : (left : Option (List ℕ)) (end : Served) → IsStop end → EndsInput end left
 stop_ends left (served.Malformed code) stop = tt
 stop_ends left served.Protocol stop = tt
+stop_ends left served.Foreign stop = tt
 stop_ends left served.Quit stop = tt
 stop_ends left served.Write stop = tt
 stop_ends left served.Memory stop = tt
@@ -99,6 +100,7 @@ module _ {D : Type 0} (hears says : D → List ℕ → D → Type 0) (stops : Se
   ends_then served.Write a b c i o i' o' p q = part_then a b c i o i' o' p q
   ends_then (served.Malformed code) a b c i o i' o' p q = stopped_then (served.Malformed code) a b c i o i' o' p q
   ends_then served.Protocol a b c i o i' o' p q = stopped_then served.Protocol a b c i o i' o' p q
+  ends_then served.Foreign a b c i o i' o' p q = stopped_then served.Foreign a b c i o i' o' p q
   ends_then served.Quit a b c i o i' o' p q = stopped_then served.Quit a b c i o i' o' p q
   ends_then served.Memory a b c i o i' o' p q = stopped_then served.Memory a b c i o i' o' p q
   ends_then served.Ended a b c i o i' o' p q = stopped_then served.Ended a b c i o i' o' p q
@@ -116,6 +118,7 @@ module _ {D : Type 0} (hears says : D → List ℕ → D → Type 0) (stops : Se
   conversed_then between served.Memory a b c i o i' o' p (inr lost) = inr (loses_then a b c i o i' o' p lost)
   conversed_then between (served.Malformed code) a b c i o i' o' p q = stopped_then (served.Malformed code) a b c i o i' o' p q
   conversed_then between served.Protocol a b c i o i' o' p q = stopped_then served.Protocol a b c i o i' o' p q
+  conversed_then between served.Foreign a b c i o i' o' p q = stopped_then served.Foreign a b c i o i' o' p q
   conversed_then between served.Quit a b c i o i' o' p q = stopped_then served.Quit a b c i o i' o' p q
 
   -- the requests that had come before are answered first
@@ -127,6 +130,7 @@ module _ {D : Type 0} (hears says : D → List ℕ → D → Type 0) (stops : Se
   pub written_conversed : (between : D → Bool) (end : Served) (a b : D) (i o : List ℕ) → IsStop end → EndsWritten hears says stops waits end a i o b → Conversed hears says stops waits between end a i o b
   written_conversed between (served.Malformed code) a b i o stop p = p
   written_conversed between served.Protocol a b i o stop p = p
+  written_conversed between served.Foreign a b i o stop p = p
   written_conversed between served.Quit a b i o stop p = p
   written_conversed between served.Write a b i o stop p = p
   written_conversed between served.Memory a b i o stop p = inl p
@@ -138,6 +142,7 @@ module _ {D : Type 0} (hears says : D → List ℕ → D → Type 0) (stops : Se
   stopped_written : (end : Served) (a b : D) (i o : List ℕ) → IsStop end → IsStopped hears says stops waits end a i o b → (o' : List ℕ) × EndsWritten hears says stops waits end a i o' b × (o ≡ o')
   stopped_written (served.Malformed code) a b i o stop p = (o, p, refl)
   stopped_written served.Protocol a b i o stop p = (o, p, refl)
+  stopped_written served.Foreign a b i o stop p = (o, p, refl)
   stopped_written served.Quit a b i o stop p = (o, p, refl)
   stopped_written served.Memory a b i o stop p = (o, p, refl)
   stopped_written served.Write a b i o stop p = (o, record { whole = o; rest = []; parts = sym (append-nil o); done = inr (served.Write, p) }, refl)

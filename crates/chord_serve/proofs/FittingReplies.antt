@@ -2,7 +2,7 @@
 use Rattle.std.proofs.Common.{◌≡◌, ◌≢◌, ℕ, zero, suc, ◌+◌, ◌-◌, ◌<◌, ◌≤◌, max, Bool, true, false, cond, ◌||◌, eqb, ltb, leb, List, [], ◌∷◌, ◌++◌, length, take, drop, map, Option, Some, None, refl, sym, ap, subst, ◌∙◌, append_assoc, arith, inl, inr}
 use Rattle.std.specs.Prelude.{slice_get, is_some}
 use Rattle.std.specs.List.{AllByRecursion}
-use Rattle.std.proofs.lemmas.Bool.{cases_Bool, or_parts, ltb-false, leb-false, eqb-false}
+use Rattle.std.proofs.lemmas.Bool.{cases_Bool, or_parts, leb-false, eqb-false}
 use Rattle.std.proofs.lemmas.List.{length-append, length-map, length-take, take-append-drop, map-append}
 use Rattle.chord_map.specs.declared.request.Request.{Request}
 use Rattle.chord_map.specs.Same.{same_request, same_request-Decides}
@@ -13,12 +13,13 @@ use Rattle.chord_session.specs.declared.asked_request.AskedRequest.{AskedRequest
 use Rattle.chord_session.specs.declared.session.Move.{Move}
 use Rattle.chord_session.specs.declared.session.Move.TheVariants.{Refuse, Again, Ask, Retry}
 use Rattle.chord_session.specs.SessionState.{SessionState}
-use Rattle.chord_session.specs.Session.{with_accepted, with_open_request, answered_floor, answered_of, answered_at, frame_at, is_out, last_number, move_at, move_of, place_of, raised, first_state}
+use Rattle.chord_session.specs.Session.{with_accepted, with_open_request, answered_at, frame_at, is_out, last_number, move_at, move_of, place_of, raised, first_state}
 use Rattle.chord_serve.specs.declared.asker.Asked.{Asked}
 use Rattle.chord_serve.specs.declared.asker.Asked.TheVariants as asked
 use Rattle.chord_serve.specs.Question.{Question, IsReplyTo, asked_with, request_at, request_asked}
 use Rattle.chord_serve.specs.Question as question
 use Rattle.chord_serve.specs.Output.{reaction, react, after_answer, question_of, and_then, and_pair, answered_requests, questions, AreAnswers, IsPaired}
+use Rattle.chord_serve.proofs.AskedOnce.{floor_low}
 
 abbrev request_in : AskedRequest → Request
 request_in k = k.request
@@ -33,13 +34,6 @@ requests_stay : (kept : List AskedRequest) (place : ℕ) (frame : List ℕ) → 
 requests_stay [] place frame = refl
 requests_stay (k ∷ kept) zero frame = refl
 requests_stay (k ∷ kept) (suc place) frame = ap (λ (xs : List Request). k.request ∷ xs) (requests_stay kept place frame)
-
-few_answered : (kept : List AskedRequest) → answered_of kept ≤ length kept
-few_answered [] = omega arith
-few_answered (k ∷ kept) = elim (cases_Bool (is_some k.frame)) [
-  | inl some ↦ rw some (omega (arith, few_answered kept))
-  | inr none ↦ rw none (omega arith)
-]
 
 abbrev more_prefix : SessionState → ℕ → List Request
 more_prefix s floor = map request_in (take (floor - s.floor) s.kept)
@@ -56,18 +50,10 @@ noted_raised s floor requests le n =
       same = n.same ∙ ap (λ (xs : List Request). n.prefix ++ xs) split ∙ sym (append_assoc n.prefix (more_prefix s floor) (map request_in (drop (floor - s.floor) s.kept)));
     }
 
-low_floor : (s : SessionState) (r : WireRequest) → is_out s r ≡ false → r.floor ≤ last_number s
-low_floor s r e =
-    let all = or_parts ((eqb r.number 0 || ltb (answered_floor s) r.floor) || leb r.number s.floor) (ltb (last_number s + 1) r.number) e in
-    let three = or_parts (eqb r.number 0 || ltb (answered_floor s) r.floor) (leb r.number s.floor) all.0 in
-    let two = or_parts (eqb r.number 0) (ltb (answered_floor s) r.floor) three.0 in
-    let le : r.floor ≤ answered_floor s = ltb-false _ _ two.1 in
-    omega (arith, le, few_answered s.kept)
-
-noted_accepted : (s : SessionState) (r : WireRequest) (requests : List Request) → IsNoted s requests → IsNoted (with_accepted s r) requests
-noted_accepted s r requests n = elim (cases_Bool (is_out s r)) [
+noted_accepted : (s : SessionState) (r : WireRequest) (requests : List Request) → IsWireRequest r → IsNoted s requests → IsNoted (with_accepted s r) requests
+noted_accepted s r requests fits n = elim (cases_Bool (is_out s r)) [
   | inl out ↦ subst (λ (b : Bool). IsNoted (cond b s (raised s r.floor)) requests) (sym out) n
-  | inr goes ↦ subst (λ (b : Bool). IsNoted (cond b s (raised s r.floor)) requests) (sym goes) (noted_raised s r.floor requests (low_floor s r goes) n)
+  | inr goes ↦ subst (λ (b : Bool). IsNoted (cond b s (raised s r.floor)) requests) (sym goes) (noted_raised s r.floor requests (floor_low s r fits goes) n)
 ]
 
 noted_added : (s : SessionState) (request : Request) (requests : List Request) → IsNoted s requests → IsNoted (with_open_request s request) (requests ++ request ∷ [])
@@ -129,11 +115,10 @@ not_refused s r e =
 -- the number is above the floor
 above : (s : SessionState) (r : WireRequest) → IsWireRequest r → is_out s r ≡ false → (raised s r.floor).floor < r.number
 above s r fits e =
-    let all = or_parts ((eqb r.number 0 || ltb (answered_floor s) r.floor) || leb r.number s.floor) (ltb (last_number s + 1) r.number) e in
-    let three = or_parts (eqb r.number 0 || ltb (answered_floor s) r.floor) (leb r.number s.floor) all.0 in
-    let two = or_parts (eqb r.number 0) (ltb (answered_floor s) r.floor) three.0 in
+    let all = or_parts (eqb r.number 0 || leb r.number s.floor) (ltb (last_number s + 1) r.number) e in
+    let two = or_parts (eqb r.number 0) (leb r.number s.floor) all.0 in
     let some : r.number ≡ 0 → ⊥ = eqb-false _ _ two.0 in
-    let over : s.floor < r.number = leb-false _ _ three.1 in
+    let over : s.floor < r.number = leb-false _ _ two.1 in
     let own : r.floor < r.number = elim fits.floor [
       | inl one ↦ omega (arith, one.1, some)
       | inr two ↦ two.1
@@ -162,28 +147,28 @@ module _ {A : Type 0} (answers : A → Question → Asked → A → Type 0) (ask
     after : A
     noted : IsNoted (react m t r given).state (asked_of after)
     rest : AreAnswers answers after qs (react m t r given).unused c
-    fits : (pairs : List (Request × Asked)) → AllByRecursion IsPaired pairs → AllByRecursion IsPaired (and_pair (question_of m r) r given pairs)
+    fits : (pairs : List (Request × Asked)) → AllByRecursion IsPaired pairs → AllByRecursion IsPaired (and_pair (question_of m t r) r given pairs)
 
-  goes : (m : Move) (s : SessionState) (a : A) (r : WireRequest) (given : List Asked) (qs : List Question) (c : A) → move_of s r ≡ m → IsWireRequest r → IsNoted (with_accepted s r) (asked_of a) → AreAnswers answers a (and_then (question_of m r) qs) given c → Goes m (with_accepted s r) a r given qs c
+  goes : (m : Move) (s : SessionState) (a : A) (r : WireRequest) (given : List Asked) (qs : List Question) (c : A) → move_of s r ≡ m → IsWireRequest r → IsNoted (with_accepted s r) (asked_of a) → AreAnswers answers a (and_then (question_of m (with_accepted s r) r) qs) given c → Goes m (with_accepted s r) a r given qs c
   goes (Refuse code) s a r given qs c e whole n h = record { after = a; noted = n; rest = h; fits = λ pairs all. all }
   goes Again s a r given qs c e whole n h = record { after = a; noted = n; rest = h; fits = λ pairs all. all }
   goes Ask s a r [] qs c e whole n h = absurd h
   goes Ask s a r (x ∷ given) qs c e whole n h =
-      let next : asked_of h.0 ≡ asked_of a ++ r.request ∷ [] = notes a h.0 (question.Ask r.request) x h.1 h.2 in
+      let next : asked_of h.0 ≡ asked_of a ++ r.request ∷ [] = notes a h.0 (question.Ask r.request (with_accepted s r).floor) x h.1 h.2 in
       record {
         after = h.0;
         noted = noted_told (with_open_request (with_accepted s r) r.request) r.number x (asked_of h.0) (subst (IsNoted (with_open_request (with_accepted s r) r.request)) (sym next) (noted_added (with_accepted s r) r.request (asked_of a) n));
         rest = h.3;
-        fits = λ pairs all. (kind a h.0 (question.Ask r.request) x h.1, all);
+        fits = λ pairs all. (kind a h.0 (question.Ask r.request (with_accepted s r).floor) x h.1, all);
       }
   goes Retry s a r [] qs c e whole n h = absurd h
   goes Retry s a r (x ∷ given) qs c e whole n h =
-      let next : asked_of h.0 ≡ asked_of a = notes a h.0 (question.Retry r.number) x h.1 h.2 in
+      let next : asked_of h.0 ≡ asked_of a = notes a h.0 (question.Retry r.number (with_accepted s r).floor) x h.1 h.2 in
       record {
         after = h.0;
         noted = noted_told (with_accepted s r) r.number x (asked_of h.0) (subst (IsNoted (with_accepted s r)) (sym next) n);
         rest = h.3;
-        fits = λ pairs all. (subst (IsReplyTo x) (retried_is s r (asked_of a) whole n e) (kind a h.0 (question.Retry r.number) x h.1), all);
+        fits = λ pairs all. (subst (IsReplyTo x) (retried_is s r (asked_of a) whole n e) (kind a h.0 (question.Retry r.number (with_accepted s r).floor) x h.1), all);
       }
 
   all_fit : (s : SessionState) (a : A) (rs : List WireRequest) (given : List Asked) (b : A) → AllByRecursion IsWireRequest rs → IsNoted s (asked_of a) → AreAnswers answers a (questions s rs given) given b → AllByRecursion IsPaired (answered_requests s rs given)
@@ -191,7 +176,7 @@ module _ {A : Type 0} (answers : A → Question → Asked → A → Type 0) (ask
   all_fit s a [] given b whole n h = tt
   all_fit s a (r ∷ rs) given b whole n h =
       let x = reaction s r given in
-      let g = goes (move_of s r) s a r given (questions x.state rs x.unused) b refl whole.0 (noted_accepted s r (asked_of a) n) h in
+      let g = goes (move_of s r) s a r given (questions x.state rs x.unused) b refl whole.0 (noted_accepted s r (asked_of a) whole.0 n) h in
       g.fits (answered_requests x.state rs x.unused) (all_fit x.state g.after rs x.unused b whole.1 g.noted g.rest)
 
   pub replies_fit : (a : A) (rs : List WireRequest) (given : List Asked) (b : A) → asked_of a ≡ [] → AllByRecursion IsWireRequest rs → AreAnswers answers a (questions first_state rs given) given b → AllByRecursion IsPaired (answered_requests first_state rs given)

@@ -110,6 +110,7 @@ module _ {A D : Type 0} (answers : A → Question → Asked → A → Type 0) (f
   conversed_serves served.Memory c d i o going (inr lost) = lost_serves c d i o going lost
   conversed_serves (served.Malformed code) c d i o going p = stopped_serves (served.Malformed code) c d i o going p
   conversed_serves served.Protocol c d i o going p = stopped_serves served.Protocol c d i o going p
+  conversed_serves served.Foreign c d i o going p = stopped_serves served.Foreign c d i o going p
   conversed_serves served.Quit c d i o going p = stopped_serves served.Quit c d i o going p
 
   -- nothing was read, and the requests that had come before are answered

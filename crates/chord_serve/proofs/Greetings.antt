@@ -14,5 +14,6 @@ greets_nothing served.Ended old mid new a b c p q = absurd q
 greets_nothing served.Truncated old mid new a b c p q = absurd q
 greets_nothing served.TurnsSpent old mid new a b c p q = absurd q
 greets_nothing served.Protocol old mid new a b c p q = absurd q
+greets_nothing served.Foreign old mid new a b c p q = absurd q
 greets_nothing served.Quit old mid new a b c p q = absurd q
 greets_nothing (served.Malformed code) old mid new a b c p q = absurd q

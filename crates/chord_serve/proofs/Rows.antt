@@ -81,6 +81,7 @@ module _ {A : Type 0} (answers : A → Question → Asked → A → Type 0) wher
   ])
   visit served.Memory before after input output p = stopped_visit before after input output p
   visit served.Protocol before after input output p = absurd p
+  visit served.Foreign before after input output p = absurd p
   visit served.Quit before after input output p = absurd p
 
   pub one_session : (first : ClientSession A) (inputs outputs : List (List ℕ)) (last : ClientSession A) → InARow answers first inputs outputs last → AreOneSession answers first inputs outputs last

@@ -8,7 +8,7 @@ use Rattle.chord_session.specs.Session.{with_accepted, with_open_request, move_o
 use Rattle.chord_serve.specs.declared.asker.Asked.{Asked}
 use Rattle.chord_serve.specs.Question.{Question}
 use Rattle.chord_serve.specs.Question as question
-use Rattle.chord_serve.specs.Output.{Reaction, reaction, react, question_of, and_then, after_answer, bytes_written, state_after, questions, AreAnswers}
+use Rattle.chord_serve.specs.Output.{Reaction, reaction, react, question_of, next_question, and_then, after_answer, bytes_written, state_after, questions, AreAnswers}
 use Rattle.chord_serve.specs.Steps.{Asks, Does, Step}
 
 module _ {A : Type 0} (answers : A → Question → Asked → A → Type 0) where
@@ -32,10 +32,10 @@ module _ {A : Type 0} (answers : A → Question → Asked → A → Type 0) wher
   record Reacts (m : Move) (t : SessionState) (a : A) (r : WireRequest) (bytes : List ℕ) (mid : SessionState) (b : A) (unused : List Asked) : Type 0 where
     given : List Asked
     same : react m t r given ≡ made bytes mid unused
-    more : (qs : List Question) (c : A) → AreAnswers answers b qs unused c → AreAnswers answers a (and_then (question_of m r) qs) given c
+    more : (qs : List Question) (c : A) → AreAnswers answers b qs unused c → AreAnswers answers a (and_then (question_of m t r) qs) given c
 
   asks_reacts : (s : SessionState) (a : A) (q : Question) (r : WireRequest) (bytes : List ℕ) (mid : SessionState) (b : A) (unused : List Asked) (m : Move) (t : SessionState)
-      → ((x : Asked) → react m t r (x ∷ unused) ≡ react Retry s r (x ∷ unused)) → question_of m r ≡ Some q
+      → ((x : Asked) → react m t r (x ∷ unused) ≡ react Retry s r (x ∷ unused)) → question_of m t r ≡ Some q
       → Asks answers s a q r.number bytes mid b → Reacts m t a r bytes mid b unused
   asks_reacts s a q r bytes mid b unused m t e qe p = record {
     given = p.answer ∷ unused;
@@ -54,8 +54,8 @@ module _ {A : Type 0} (answers : A → Question → Asked → A → Type 0) wher
     same = ap (λ (x : List ℕ). made x t unused) (sym p.0) ∙ ap (λ (x : SessionState). made bytes x unused) (sym p.1);
     more = λ qs c h. subst (λ (x : A). AreAnswers answers x qs unused c) p.2 h;
   }
-  reacts Ask t a r bytes mid b unused p = asks_reacts (with_open_request t r.request) a (question.Ask r.request) r bytes mid b unused Ask t (λ x. refl) refl p
-  reacts Retry t a r bytes mid b unused p = asks_reacts t a (question.Retry r.number) r bytes mid b unused Retry t (λ x. refl) refl p
+  reacts Ask t a r bytes mid b unused p = asks_reacts (with_open_request t r.request) a (question.Ask r.request t.floor) r bytes mid b unused Ask t (λ x. refl) refl p
+  reacts Retry t a r bytes mid b unused p = asks_reacts t a (question.Retry r.number t.floor) r bytes mid b unused Retry t (λ x. refl) refl p
 
   -- the answers with which the functions say what was done
   pub record Functional (s : SessionState) (a : A) (rs : List WireRequest) (output : List ℕ) (s' : SessionState) (a' : A) : Type 0 where
@@ -74,7 +74,7 @@ module _ {A : Type 0} (answers : A → Question → Asked → A → Type 0) wher
         given = one.given;
         output_is = p.6 ∙ ap (λ (w : List ℕ). p.0 ++ w) f.output_is ∙ ap (λ (x : Reaction). x.bytes ++ bytes_written x.state rs x.unused) (sym one.same);
         state_is = f.state_is ∙ ap (λ (x : Reaction). state_after x.state rs x.unused) (sym one.same);
-        answered = subst (λ (x : Reaction). AreAnswers answers a (and_then (question_of (move_of s r) r) (questions x.state rs x.unused)) one.given a') (sym one.same) (one.more (questions p.2 rs f.given) a' f.answered);
+        answered = subst (λ (x : Reaction). AreAnswers answers a (and_then (next_question s r) (questions x.state rs x.unused)) one.given a') (sym one.same) (one.more (questions p.2 rs f.given) a' f.answered);
       }
 
   -- ---- and back
@@ -82,7 +82,7 @@ module _ {A : Type 0} (answers : A → Question → Asked → A → Type 0) wher
   abbrev Done : Move → SessionState → A → WireRequest → List Question → List Asked → A → Type 0
   Done m t a r qs given c = (b : A) × Does answers m t a r (react m t r given).bytes (react m t r given).state b × AreAnswers answers b qs (react m t r given).unused c
 
-  does : (m : Move) (t : SessionState) (a : A) (r : WireRequest) (qs : List Question) (given : List Asked) (c : A) → AreAnswers answers a (and_then (question_of m r) qs) given c → Done m t a r qs given c
+  does : (m : Move) (t : SessionState) (a : A) (r : WireRequest) (qs : List Question) (given : List Asked) (c : A) → AreAnswers answers a (and_then (question_of m t r) qs) given c → Done m t a r qs given c
   does (Refuse code) t a r qs given c h = (a, (refl, refl, refl), h)
   does Again t a r qs given c h = (a, (refl, refl, refl), h)
   does Ask t a r qs [] c h = absurd h

@@ -19,7 +19,7 @@ use Rattle.std.specs.declared.alloc.AllocError.{AllocError}
 use Rattle.chord_serve.specs.Question.{Question}
 use Rattle.chord_serve.specs.Question as question
 use Rattle.chord_serve.specs.Writes.{Joins}
-use Rattle.chord_serve.specs.Output.{frame_of, after_answer, question_of}
+use Rattle.chord_serve.specs.Output.{frame_of, after_answer, question_of, next_question}
 use Rattle.chord_serve.specs.Steps.{Asks, Does, Step, MayAsk, Deals}
 
 last_of : (ks : List AskedRequest) (k : AskedRequest) → slice_get (ks ++ k ∷ []) (length ks) ≡ Some k
@@ -48,10 +48,10 @@ module _ {A : Type 0} (answers : A → Question → Asked → A → Type 0) wher
 
   -- a step without a question, whose bytes are added to the output
   joined : (result : Result (Unit {0}) AllocError) (m : Move) (s : SessionState) (a : A) (r : WireRequest) (bytes : List ℕ) (s' : SessionState) (old new : List ℕ)
-      → m ≡ move_of s r → question_of m r ≡ None → Step answers s a r bytes s' a → Joins result old new bytes → Deals answers result s a r old new s' a
+      → m ≡ move_of s r → question_of m (with_accepted s r) r ≡ None → Step answers s a r bytes s' a → Joins result old new bytes → Deals answers result s a r old new s' a
   joined (Ok done) m s a r bytes s' old new e none step w = (bytes, step, w)
   joined (Err refused) m s a r bytes s' old new e none step w =
-      (w, subst (λ (o : Option Question). MayAsk answers o a a) (sym none ∙ ap (λ (n : Move). question_of n r) e) refl)
+      (w, subst (λ (o : Option Question). MayAsk answers o a a) (sym none ∙ ap (λ (n : Move). question_of n (with_accepted s r) r) e) refl)
 
   pub refuses : (result : Result (Unit {0}) AllocError) (code : FaultCode) (s mid : SessionState) (a : A) (r : WireRequest) (old new : List ℕ) → Refuse code ≡ move_of s r → mid ≡ with_accepted s r → Joins result old new (frame (fault_body r.number code)) → Deals answers result s a r old new mid a
   refuses result code s mid a r old new e t w =
@@ -63,7 +63,7 @@ module _ {A : Type 0} (answers : A → Question → Asked → A → Type 0) wher
 
   -- a question was asked, and its answer written
   told_deals : (result : Result (Unit {0}) AllocError) (answer : Asked) (q : Question) (before after s : SessionState) (a a' : A) (r : WireRequest) (old new : List ℕ)
-      → question_of (move_of s r) r ≡ Some q
+      → next_question s r ≡ Some q
       → ((bytes : List ℕ) (s' : SessionState) → Asks answers before a q r.number bytes s' a' → Step answers s a r bytes s' a')
       → answers a q answer a'
       → Joins result old new (frame_of r.number answer)
@@ -75,25 +75,31 @@ module _ {A : Type 0} (answers : A → Question → Asked → A → Type 0) wher
   told_deals (Err refused) answer q before after s a a' r old new asks step answered w t ok =
       (w, subst (λ (o : Option Question). MayAsk answers o a a') (sym asks) (inr (answer, answered)))
 
-  pub asks_new : (result : Result (Unit {0}) AllocError) (answer : Asked) (asked_for : Request) (mid before after s : SessionState) (a a' : A) (r : WireRequest) (old new : List ℕ)
-      → Ask ≡ move_of s r → mid ≡ with_accepted s r → before ≡ with_open_request mid r.request → asked_for ≡ r.request
-      → answers a (question.Ask asked_for) answer a'
+  pub asks_new : (result : Result (Unit {0}) AllocError) (answer : Asked) (asked_for : Request) (floor : ℕ) (mid before after s : SessionState) (a a' : A) (r : WireRequest) (old new : List ℕ)
+      → Ask ≡ move_of s r → mid ≡ with_accepted s r → before ≡ with_open_request mid r.request → asked_for ≡ r.request → floor ≡ before.floor
+      → answers a (question.Ask asked_for floor) answer a'
       → Joins result old new (frame_of r.number answer)
       → OnOk result (after ≡ after_answer before r.number answer)
       → OnOk result (answer ≢ asked.Memory)
       → Deals answers result s a r old new after a'
-  asks_new result answer asked_for mid before after s a a' r old new e t b same answered w ok1 ok2 =
-      told_deals result answer (question.Ask r.request) before after s a a' r old new (ap (λ (m : Move). question_of m r) (sym e))
-      (λ bytes s' h. with_move Ask mid s a r bytes s' a' e t (subst (λ (u : SessionState). Asks answers u a (question.Ask r.request) r.number bytes s' a') b h))
-      (subst (λ (x : Request). answers a (question.Ask x) answer a') same answered) w ok1 ok2
+  asks_new result answer asked_for floor mid before after s a a' r old new e t b same low answered w ok1 ok2 =
+      let f = (with_accepted s r).floor in
+      let floor_is : floor ≡ f = low ∙ ap (λ (u : SessionState). u.floor) b ∙ ap (λ (u : SessionState). u.floor) t in
+      told_deals result answer (question.Ask r.request f) before after s a a' r old new (ap (λ (m : Move). question_of m (with_accepted s r) r) (sym e))
+      (λ bytes s' h. with_move Ask mid s a r bytes s' a' e t (subst (λ (n : ℕ). Asks answers (with_open_request mid r.request) a (question.Ask r.request n) r.number bytes s' a') (sym (ap (λ (u : SessionState). u.floor) t))
+      (subst (λ (u : SessionState). Asks answers u a (question.Ask r.request f) r.number bytes s' a') b h)))
+      (subst (λ (n : ℕ). answers a (question.Ask r.request n) answer a') floor_is (subst (λ (x : Request). answers a (question.Ask x floor) answer a') same answered)) w ok1 ok2
 
-  pub asks_again : (result : Result (Unit {0}) AllocError) (answer : Asked) (mid after s : SessionState) (a a' : A) (r : WireRequest) (old new : List ℕ)
-      → Retry ≡ move_of s r → mid ≡ with_accepted s r
-      → answers a (question.Retry r.number) answer a'
+  pub asks_again : (result : Result (Unit {0}) AllocError) (answer : Asked) (floor : ℕ) (mid after s : SessionState) (a a' : A) (r : WireRequest) (old new : List ℕ)
+      → Retry ≡ move_of s r → mid ≡ with_accepted s r → floor ≡ mid.floor
+      → answers a (question.Retry r.number floor) answer a'
       → Joins result old new (frame_of r.number answer)
       → OnOk result (after ≡ after_answer mid r.number answer)
       → OnOk result (answer ≢ asked.Memory)
       → Deals answers result s a r old new after a'
-  asks_again result answer mid after s a a' r old new e t answered w ok1 ok2 =
-      told_deals result answer (question.Retry r.number) mid after s a a' r old new (ap (λ (m : Move). question_of m r) (sym e))
-      (λ bytes s' h. with_move Retry mid s a r bytes s' a' e t h) answered w ok1 ok2
+  asks_again result answer floor mid after s a a' r old new e t low answered w ok1 ok2 =
+      let f = (with_accepted s r).floor in
+      let same : mid.floor ≡ f = ap (λ (u : SessionState). u.floor) t in
+      told_deals result answer (question.Retry r.number f) mid after s a a' r old new (ap (λ (m : Move). question_of m (with_accepted s r) r) (sym e))
+      (λ bytes s' h. with_move Retry mid s a r bytes s' a' e t (subst (λ (n : ℕ). Asks answers mid a (question.Retry r.number n) r.number bytes s' a') (sym same) h))
+      (subst (λ (n : ℕ). answers a (question.Retry r.number n) answer a') (low ∙ same) answered) w ok1 ok2

@@ -8,6 +8,7 @@ use Rattle.chord_serve.specs.declared.served.Served.TheVariants as served
 abbrev pub IsStop : Served → Type 0
 IsStop (served.Malformed code) = Unit {0}
 IsStop served.Protocol = Unit {0}
+IsStop served.Foreign = Unit {0}
 IsStop served.Quit = Unit {0}
 IsStop served.Write = Unit {0}
 IsStop served.Memory = Unit {0}

@@ -1,5 +1,5 @@
 -- Which of the sessions without a connection is meant. Source: docs/protocol.md.
-use Rattle.std.specs.Prelude.{◌≡◌, ℕ, Bool, ◌&&◌, not, nat_le, ◌+◌, ◌-◌, ◌^◌, min, fold, List, [], ◌∷◌, Option, Some, None, slice_get}
+use Rattle.std.specs.Prelude.{◌≡◌, ℕ, nat_le, ◌+◌, ◌-◌, ◌^◌, min, fold, List, [], ◌∷◌, Option, Some, None, slice_get}
 use Rattle.std.specs.List.{position, remove}
 use Rattle.std.specs.Str.{bytes_eq}
 use Rattle.chord_wire.specs.declared.token.Token.{Token}
@@ -11,14 +11,9 @@ use Rattle.chord_serve.specs.declared.kept_sessions.KeptSession.{KeptSession}
 abbrev pub place_of : {A : Type 0} → Token → List (KeptSession A) → Option ℕ
 place_of {A} token kept = position (λ (k : KeptSession A). bytes_eq k.token.bytes token.bytes) kept
 
--- the index of the first session that lost its connection by then, and has no pending request
-abbrev pub oldest_of : {A : Type 0} → (A → Bool) → ℕ → List (KeptSession A) → Option ℕ
-oldest_of {A} pending until kept = position (λ (k : KeptSession A). nat_le k.since until && not (pending k.client.asker)) kept
-
--- the index of the session that has been without a connection longest
-abbrev pub first_of : {A : Type 0} → List (KeptSession A) → Option ℕ
-first_of [] = None
-first_of (first ∷ rest) = Some 0
+-- the index of the first session that lost its connection by then
+abbrev pub oldest_of : {A : Type 0} → ℕ → List (KeptSession A) → Option ℕ
+oldest_of {A} until kept = position (λ (k : KeptSession A). nat_le k.since until) kept
 
 -- how many bytes the kept answers of the sessions have together, or the greatest count
 abbrev pub bytes_kept : {A : Type 0} → List (KeptSession A) → ℕ

@@ -52,12 +52,16 @@ react Retry s r given = on_answer s r.number given
 abbrev pub reaction : SessionState → WireRequest → List Asked → Reaction
 reaction s r given = react (move_of s r) (with_accepted s r) r given
 
--- the question that a move asks, if any
-abbrev pub question_of : Move → WireRequest → Option Question
-question_of (Refuse code) r = None
-question_of Again r = None
-question_of Ask r = Some (question.Ask r.request)
-question_of Retry r = Some (question.Retry r.number)
+-- the question that a move asks, if any, of a session that let the request in
+abbrev pub question_of : Move → SessionState → WireRequest → Option Question
+question_of (Refuse code) s r = None
+question_of Again s r = None
+question_of Ask s r = Some (question.Ask r.request s.floor)
+question_of Retry s r = Some (question.Retry r.number s.floor)
+
+-- the question that a request asks, if any
+abbrev pub next_question : SessionState → WireRequest → Option Question
+next_question s r = question_of (move_of s r) (with_accepted s r) r
 
 abbrev pub and_then : Option Question → List Question → List Question
 and_then None questions = questions
@@ -76,13 +80,13 @@ state_after s (r ∷ requests) given = state_after (reaction s r given).state re
 -- all questions, in order
 unfoldable pub questions : SessionState → List WireRequest → List Asked → List Question
 questions s [] given = []
-questions s (r ∷ requests) given = and_then (question_of (move_of s r) r) (questions (reaction s r given).state requests (reaction s r given).unused)
+questions s (r ∷ requests) given = and_then (next_question s r) (questions (reaction s r given).state requests (reaction s r given).unused)
 
 -- the requests that questions ask anew
 abbrev pub asked_anew : List Question → List Request
 asked_anew [] = []
-asked_anew (question.Ask request ∷ questions) = request ∷ asked_anew questions
-asked_anew (question.Retry number ∷ questions) = asked_anew questions
+asked_anew (question.Ask request floor ∷ questions) = request ∷ asked_anew questions
+asked_anew (question.Retry number floor ∷ questions) = asked_anew questions
 
 -- The asker answered each question once, in order, with these answers. Memory is no answer.
 abbrev pub AreAnswers : {A : Type 0} → (A → Question → Asked → A → Type 0) → A → List Question → List Asked → A → Type 0
@@ -101,7 +105,7 @@ and_pair (Some q) r (x ∷ given) pairs = (r.request, x) ∷ pairs
 unfoldable pub answered_requests : SessionState → List WireRequest → List Asked → List (Request × Asked)
 answered_requests s [] given = []
 answered_requests s (r ∷ requests) given =
-    and_pair (question_of (move_of s r) r) r given (answered_requests (reaction s r given).state requests (reaction s r given).unused)
+    and_pair (next_question s r) r given (answered_requests (reaction s r given).state requests (reaction s r given).unused)
 
 -- a reply is of the request's kind
 abbrev pub IsPaired : (Request × Asked) → Type 0

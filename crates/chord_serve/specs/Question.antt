@@ -6,10 +6,11 @@ use Rattle.chord_wire.specs.Replies.{IsReply}
 use Rattle.chord_serve.specs.declared.asker.Asked.{Asked}
 use Rattle.chord_serve.specs.declared.asker.Asked.TheVariants as asked
 
--- a new request, or a number that was asked before
+-- A new request, or a number that was asked before. Of the requests up to the floor nothing more is
+-- wanted: those without a reply are given up first.
 pub data Question : Type 0 where
-  Ask : (request : Request) → Question
-  Retry : (number : ℕ) → Question
+  Ask : (request : Request) (floor : ℕ) → Question
+  Retry : (number floor : ℕ) → Question
 
 -- a reply within the limits, or an answer that is no reply
 abbrev pub IsAnswer : Asked → Type 0
@@ -20,8 +21,8 @@ IsAnswer asked.Memory = Unit {0}
 
 -- the requests asked so far; a new question adds its request
 abbrev pub asked_with : Question → List Request → List Request
-asked_with (Ask request) requests = requests ++ request ∷ []
-asked_with (Retry number) requests = requests
+asked_with (Ask request floor) requests = requests ++ request ∷ []
+asked_with (Retry number floor) requests = requests
 
 -- the request with this number, from 1
 abbrev pub request_at : ℕ → List Request → Option Request
@@ -30,8 +31,8 @@ request_at (suc place) requests = slice_get requests place
 
 -- the request that a question is about
 abbrev pub request_asked : Question → List Request → Option Request
-request_asked (Ask request) requests = Some request
-request_asked (Retry number) requests = request_at number requests
+request_asked (Ask request floor) requests = Some request
+request_asked (Retry number floor) requests = request_at number requests
 
 -- a reply is of the request's kind
 abbrev pub IsReplyTo : Asked → Option Request → Type 0

@@ -13,7 +13,6 @@ use Rattle.chord_wire.specs.Streams.{Spells}
 use Rattle.chord_wire.specs.Replies.{fault_body}
 use Rattle.chord_wire.specs.Reading.{next_request}
 use Rattle.chord_session.specs.SessionState.{SessionState}
-use Rattle.chord_session.specs.Session.{move_of}
 use Rattle.chord_serve.specs.declared.asker.Asked.{Asked}
 use Rattle.chord_serve.specs.declared.served.Served.{Served}
 use Rattle.chord_serve.specs.declared.served.Served.TheVariants as served
@@ -22,7 +21,7 @@ use Rattle.chord_serve.specs.declared.parted.Parted.{Parted}
 use Rattle.chord_serve.specs.declared.parted.Parted.TheVariants as parted
 use Rattle.chord_serve.specs.Parting.{client, asker_of, KeptAs, OverAs}
 use Rattle.chord_serve.specs.Question.{Question}
-use Rattle.chord_serve.specs.Output.{bytes_written, state_after, questions, question_of, AreAnswers}
+use Rattle.chord_serve.specs.Output.{bytes_written, state_after, questions, next_question, AreAnswers}
 use Rattle.chord_serve.specs.Steps.{MayAsk}
 
 -- the frame of a fault
@@ -99,7 +98,7 @@ module _ {A : Type 0} (answers : A → Question → Asked → A → Type 0) wher
     pub behind : List ℕ
     pub next : next_request rest ≡ Ok (Some (request, behind))
     pub same_version : is_other v request.version ≡ false
-    pub may_ask : MayAsk answers (question_of (move_of s request) request) a a'
+    pub may_ask : MayAsk answers (next_question s request) a a'
 
   -- The session is left as it was. Or it is over: memory ran out within the answer to the next
   -- request, or for the word that it is closed.
@@ -130,6 +129,7 @@ module _ {A : Type 0} (answers : A → Question → Asked → A → Type 0) wher
       × (StopsAfter is_opened v s a input whole left ⊎ (((f : WireFault) × KeptAs left (Refuses is_opened v s a input whole f)) ⊎ OverAs left (Closes is_opened v s a input whole)))
   IsParted is_opened served.Memory v s a input output left = StopsAfter is_opened v s a input output left
   IsParted is_opened served.Protocol v s a input output left = ⊥
+  IsParted is_opened served.Foreign v s a input output left = ⊥
 
   -- The same of a connection that began without an Open: its session ends with it, and its asker is
   -- given back.
@@ -146,6 +146,7 @@ TellsFault served.Truncated f old new = ⊥
 TellsFault served.Read f old new = ⊥
 TellsFault served.TurnsSpent f old new = ⊥
 TellsFault served.Protocol f old new = ⊥
+TellsFault served.Foreign f old new = ⊥
 TellsFault served.Quit f old new = ⊥
 
 -- the frame that says that the session ended was added to the output, or there was no memory for it
@@ -159,3 +160,4 @@ TellsClosed served.Truncated old new = ⊥
 TellsClosed served.Read old new = ⊥
 TellsClosed served.TurnsSpent old new = ⊥
 TellsClosed served.Protocol old new = ⊥
+TellsClosed served.Foreign old new = ⊥

@@ -12,7 +12,7 @@ use Rattle.chord_serve.specs.declared.asker.Asked.{Asked}
 use Rattle.chord_serve.specs.declared.asker.Asked.TheVariants as asked
 use Rattle.chord_serve.specs.Question.{Question}
 use Rattle.chord_serve.specs.Question as question
-use Rattle.chord_serve.specs.Output.{frame_of, after_answer, question_of}
+use Rattle.chord_serve.specs.Output.{frame_of, after_answer, next_question}
 
 module _ {A : Type 0} (answers : A → Question → Asked → A → Type 0) where
   -- the question is asked once; its answer is written, and a reply stored
@@ -27,8 +27,8 @@ module _ {A : Type 0} (answers : A → Question → Asked → A → Type 0) wher
   abbrev pub Does : Move → SessionState → A → WireRequest → List ℕ → SessionState → A → Type 0
   Does (Refuse code) s a r bytes s' a' = (bytes ≡ frame (fault_body r.number code)) × (s' ≡ s) × (a' ≡ a)
   Does Again s a r bytes s' a' = (bytes ≡ frame_again s r.number) × (s' ≡ s) × (a' ≡ a)
-  Does Ask s a r bytes s' a' = Asks (with_open_request s r.request) a (question.Ask r.request) r.number bytes s' a'
-  Does Retry s a r bytes s' a' = Asks s a (question.Retry r.number) r.number bytes s' a'
+  Does Ask s a r bytes s' a' = Asks (with_open_request s r.request) a (question.Ask r.request s.floor) r.number bytes s' a'
+  Does Retry s a r bytes s' a' = Asks s a (question.Retry r.number s.floor) r.number bytes s' a'
 
   -- what the session writes for one request, and the session and the asker afterwards
   abbrev pub Step : SessionState → A → WireRequest → List ℕ → SessionState → A → Type 0
@@ -42,4 +42,4 @@ module _ {A : Type 0} (answers : A → Question → Asked → A → Type 0) wher
   -- a step whose bytes are added to the output; none are if memory ran out
   abbrev pub Deals : Result (Unit {0}) AllocError → SessionState → A → WireRequest → List ℕ → List ℕ → SessionState → A → Type 0
   Deals (Ok done) s a r old new s' a' = (bytes : List ℕ) × Step s a r bytes s' a' × (new ≡ old ++ bytes)
-  Deals (Err refused) s a r old new s' a' = (new ≡ old) × MayAsk (question_of (move_of s r) r) a a'
+  Deals (Err refused) s a r old new s' a' = (new ≡ old) × MayAsk (next_question s r) a a'

@@ -23,14 +23,15 @@ pub trait Asker {
     /// The requests asked so far, in order. Their numbers are 1, 2 and so on.
     ghost asked: { Self → List Request };
 
-    /// Asks a new request.
-    fn ask(&mut self, request: &Request) -> Asked
-        ensures answer { answers self.old (Ask request.now) result self.new }
+    /// Asks a new request. Of those up to the floor nothing more is wanted: the ones without a reply
+    /// are given up first.
+    fn ask(&mut self, request: &Request, floor: u64) -> Asked
+        ensures answer { answers self.old (Ask request.now floor) result self.new }
         ensures fits { IsAnswer result };
 
-    /// Asks again for the request with this number, which got no reply.
-    fn retry(&mut self, number: u64) -> Asked
-        ensures answer { answers self.old (Retry number) result self.new }
+    /// Asks again for the request with this number, which got no reply. The floor is that of `ask`.
+    fn retry(&mut self, number: u64, floor: u64) -> Asked
+        ensures answer { answers self.old (Retry number floor) result self.new }
         ensures fits { IsAnswer result };
 
     /// A new request joins those asked, behind the others.

@@ -1,20 +1,11 @@
 //! The sessions that have no connection.
-ghost use Rattle.std.specs.Prelude.{◌≡◌, ◌<◌, ◌++◌, ◌∷◌, [], length, is_some, Some, Bool, IfSome, IfErr, OnOk};
-ghost use Rattle.chord_serve.specs.Keeping.{place_of, oldest_of, first_of, bytes_kept, TakesAt};
+ghost use Rattle.std.specs.Prelude.{◌≡◌, ◌<◌, ◌++◌, ◌∷◌, [], length, is_some, Some, IfSome, IfErr, OnOk};
+ghost use Rattle.chord_serve.specs.Keeping.{place_of, oldest_of, bytes_kept, TakesAt};
 
 use crate::client_session::ClientSession;
 use chord_wire::Token;
 use std::alloc::Global;
 use std::marker::Model;
-
-/// An asker whose last request may not be decided yet.
-pub trait MayBePending {
-    /// Whether a request is pending.
-    ghost pending: { Self → Bool };
-
-    fn is_pending(&self) -> bool
-        ensures { result ≡ pending self.now };
-}
 
 /// A session, and the moment at which it lost its connection.
 #[derive(Drop)]
@@ -47,13 +38,12 @@ fn place_of<A>(token: Token, kept: &[KeptSession<A>]) -> Option<usize>
     kept.iter().position(|one| one.token == token)
 }
 
-// The index of the first session that lost its connection by then, and has no pending request.
-fn oldest_of<A: MayBePending>(until: u64, kept: &[KeptSession<A>]) -> Option<usize>
-    ensures place { result ≡ oldest_of A.pending until kept.now }
+// The index of the first session that lost its connection by then.
+fn oldest_of<A>(until: u64, kept: &[KeptSession<A>]) -> Option<usize>
+    ensures place { result ≡ oldest_of until kept.now }
     ensures bound { IfSome result (λ place. place < length kept.now) }
 {
-    kept.iter()
-        .position(|one| one.since <= until && !one.client.asker.is_pending())
+    kept.iter().position(|one| one.since <= until)
 }
 
 impl<A> KeptSessions<A> {
@@ -131,23 +121,10 @@ impl<A> KeptSessions<A> {
         Some(self.take_at(place))
     }
 
-    /// Takes the session that has been without a connection longest, also if it has a pending
-    /// request: no session goes on any more.
-    pub fn take_first(&mut self) -> Option<ClientSession<A>>
-        ensures { TakesAt (first_of self.old) result self.old self.new }
-    {
-        if self.kept.is_empty() {
-            return None;
-        }
-        Some(self.take_at(0))
-    }
-}
-
-impl<A: MayBePending> KeptSessions<A> {
     /// Takes the session that has been without a connection longest, if since that moment or
-    /// before, and that has no pending request; its caller is needed.
+    /// before; its caller is needed.
     pub fn take_oldest(&mut self, until: u64) -> Option<ClientSession<A>>
-        ensures { TakesAt (oldest_of A.pending until self.old) result self.old self.new }
+        ensures { TakesAt (oldest_of until self.old) result self.old self.new }
     {
         let place = oldest_of(until, &self.kept)?;
         Some(self.take_at(place))

@@ -26,7 +26,7 @@ pub fn connections_are_one_session<A: Asker>()
 /// the asker took in these, in order. By [`connections_are_one_session`] that holds over all
 /// connections of a session together.
 pub fn numbers_are_asked_once<A: Asker>()
-    ensures numbers { (a b : A) (s : SessionState) (requests : List WireRequest) (given : List Asked) → AreAnswers A.answers a (questions s requests given) given b
+    ensures numbers { (a b : A) (s : SessionState) (requests : List WireRequest) (given : List Asked) → AllByRecursion IsWireRequest requests → AreAnswers A.answers a (questions s requests given) given b
         → last_number s + length (asked_anew (questions s requests given)) ≡ last_number (state_after s requests given) }
     ensures asked { (a b : A) (asks : List Question) (given : List Asked) → AreAnswers A.answers a asks given b → A.asked b ≡ A.asked a ++ asked_anew asks }
 {}

@@ -39,7 +39,7 @@ pub use client_session::ClientSession;
 pub use dialogue::Dialogue;
 pub use due::Due;
 pub use greeting::greet;
-pub use kept_sessions::{KeptSession, KeptSessions, MayBePending};
+pub use kept_sessions::{KeptSession, KeptSessions};
 pub use openings::{tell_callers_spent, tell_no_session, tell_opened, tell_session_known};
 pub use parted::Parted;
 pub use read_size::ReadSize;

@@ -1,10 +1,10 @@
 //! The sessions of a server.
 ghost use Rattle.std.specs.Prelude.{◌≡◌, ◌<◌, ◌+◌, [], IfSome, length};
-ghost use Rattle.chord_serve.specs.Keeping.{oldest_of, first_of, bytes_kept};
+ghost use Rattle.chord_serve.specs.Keeping.{oldest_of, bytes_kept};
 ghost use Rattle.chord_serve.specs.SessionTable.{held_at, connection_of, BeginsAs, ResumesAs, PartsAs, EndsAs, DropsAs};
 
 use crate::client_session::ClientSession;
-use crate::kept_sessions::{KeptSessions, MayBePending};
+use crate::kept_sessions::KeptSessions;
 use chord_wire::Token;
 use std::alloc::Global;
 use std::marker::Model;
@@ -149,21 +149,10 @@ impl<A> SessionTable<A> {
         }
     }
 
-    /// Drops the session that has been without a connection longest, also if it has a pending
-    /// request: no session goes on any more. Gives its asker.
-    pub fn drop_first(&mut self) -> Option<A>
-        ensures { DropsAs (first_of self.old.kept) result self.old self.new }
-    {
-        let client = self.kept.take_first()?;
-        Some(client.into_asker())
-    }
-}
-
-impl<A: MayBePending> SessionTable<A> {
     /// Drops the session that has been without a connection longest, if since the moment `until`
-    /// or before, and that has no pending request. Gives its asker.
+    /// or before. Gives its asker.
     pub fn drop_oldest(&mut self, until: u64) -> Option<A>
-        ensures { DropsAs (oldest_of A.pending until self.old.kept) result self.old self.new }
+        ensures { DropsAs (oldest_of until self.old.kept) result self.old self.new }
     {
         let client = self.kept.take_oldest(until)?;
         Some(client.into_asker())

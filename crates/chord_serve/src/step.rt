@@ -72,11 +72,11 @@ pub fn answer_one<A: Asker>(
         },
         Move::Ask => {
             session.add(wire.request)?;
-            let answer = asker.ask(session.newest());
+            let answer = asker.ask(session.newest(), session.floor());
             tell(alloc, session, due, number, answer)
         }
         Move::Retry => {
-            let answer = asker.retry(number);
+            let answer = asker.retry(number, session.floor());
             tell(alloc, session, due, number, answer)
         }
     }

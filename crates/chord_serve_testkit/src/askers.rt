@@ -105,7 +105,7 @@ impl Asker for MapAsker {
 
     ghost asked = { λ a. a.requests.items };
 
-    fn ask(&mut self, request: &Request) -> Asked {
+    fn ask(&mut self, request: &Request, _floor: u64) -> Asked {
         if note(&mut self.requests, request) {
             asked_of(&mut self.map, request)
         } else {
@@ -113,7 +113,7 @@ impl Asker for MapAsker {
         }
     }
 
-    fn retry(&mut self, _number: u64) -> Asked {
+    fn retry(&mut self, _number: u64, _floor: u64) -> Asked {
         Asked::NoAnswer
     }
 

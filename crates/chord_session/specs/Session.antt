@@ -17,18 +17,9 @@ first_state = record { floor = 0; kept = [] }
 abbrev pub last_number : SessionState → ℕ
 last_number s = s.floor + length s.kept
 
--- how many of the first requests are answered without a gap
-abbrev pub answered_of : List AskedRequest → ℕ
-answered_of [] = 0
-answered_of (k ∷ ks) = if is_some k.frame then answered_of ks + 1 else 0
-
--- the greatest number with all numbers up to it answered
-abbrev pub answered_floor : SessionState → ℕ
-answered_floor s = s.floor + answered_of s.kept
-
--- whether the request's number or floor is out of line
+-- whether the request's number is out of line
 abbrev pub is_out : SessionState → WireRequest → Bool
-is_out s r = r.number == 0 || nat_lt (answered_floor s) r.floor || nat_le r.number s.floor || nat_lt (last_number s + 1) r.number
+is_out s r = r.number == 0 || nat_le r.number s.floor || nat_lt (last_number s + 1) r.number
 
 -- the session with its floor raised to this one; requests at or below it are dropped
 abbrev pub raised : SessionState → ℕ → SessionState

@@ -1,7 +1,7 @@
 //! The requests of a session and their reply frames.
 ghost use Rattle.chord_wire.specs.Spelling.{IsWireRequest};
-ghost use Rattle.std.specs.Prelude.{◌≡◌, ◌≢◌, IsSome, ◌≤◌, ◌^◌, slice_get, Some, ◌<◌, ◌-◌, ◌+◌, length, nat_lt, OnOk, OnErr};
-ghost use Rattle.chord_session.specs.Session.{first_state, last_number, answered_floor, answered_of, is_out, raised, with_accepted, place_of, move_at, move_of, with_open_request, answered_at, frame_kept, frame_bytes, bytes_held};
+ghost use Rattle.std.specs.Prelude.{◌≡◌, ◌≢◌, IsSome, ◌≤◌, ◌^◌, slice_get, Some, ◌<◌, ◌-◌, ◌+◌, length, OnOk, OnErr};
+ghost use Rattle.chord_session.specs.Session.{first_state, last_number, is_out, raised, with_accepted, place_of, move_at, move_of, with_open_request, answered_at, frame_kept, frame_bytes, bytes_held};
 ghost use Rattle.std.specs.Option.{option_map};
 
 use crate::asked_request::AskedRequest;
@@ -39,20 +39,6 @@ impl Model for Session {
     ghost view = { λ s. record { floor = s.floor; kept = s.kept.items } };
 
     ghost invariant = { λ s. s.floor + vec_len s.kept < 2 ^ 64 };
-}
-
-fn answered_of(kept: &[AskedRequest]) -> usize
-    ensures count { result ≡ answered_of kept.now }
-    ensures bound { result ≤ length kept.now }
-{
-    let mut count = 0;
-    for one in kept {
-        if one.frame.is_none() {
-            return count;
-        }
-        count += 1;
-    }
-    count
 }
 
 // How many bytes the reply frame has, if there is one.
@@ -98,8 +84,9 @@ impl Session {
             .fold(0, |sum, one| sum.saturating_add(frame_bytes(one)))
     }
 
-    /// What to do with the request. Unless its number is out
-    /// of line, the session's floor rises to the request's.
+    /// What to do with the request. Unless its number is out of line, the session's floor rises to
+    /// the request's: the client wants nothing of the requests up to it any more, also of those
+    /// without a reply.
     pub fn accept(&mut self, wire: &WireRequest) -> Move
         requires { IsWireRequest wire.now }
         ensures call { result ≡ move_of self.old wire.now }
@@ -123,15 +110,7 @@ impl Session {
     {
         let last = self.floor + self.kept.len() as u64;
         let number = wire.number;
-        number == 0 || self.is_floor_out(wire.floor) || number <= self.floor || last < number - 1
-    }
-
-    /// Whether a request up to the floor has no answer. Most requests have the session's own floor,
-    /// and then none is looked at.
-    fn is_floor_out(&self, floor: u64) -> bool
-        ensures { result ≡ nat_lt (answered_floor self.now) floor }
-    {
-        self.floor < floor && self.floor + (answered_of(&self.kept) as u64) < floor
+        number == 0 || number <= self.floor || last < number - 1
     }
 
     fn raise(&mut self, floor: u64)

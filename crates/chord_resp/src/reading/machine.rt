@@ -1,12 +1,13 @@
 //! Reading a client's bytes, one at a time.
 ghost use Rattle.std.specs.Prelude.{◌≡◌, ◌-◌, ◌<◌, ◌≤◌, true, false, nat_lt, IfOk, OnOk, OnErr};
-ghost use Rattle.chord_resp.specs.Machine.{start, step, kept, went, line_step, space_step, line_end, count_end_step, body_step, end_step, word_kept, word_of_length};
+ghost use Rattle.chord_resp.specs.Machine.{start, step, kept, went, line_step, line_of, words_in, without_return, count_end_step, body_step, end_step, word_kept, word_of_length};
 ghost use Rattle.chord_resp.specs.declared.reading.phase.Phase.TheVariants as phase;
 ghost use Rattle.chord_resp.specs.ShortLines.{EndsLine};
 ghost use Rattle.chord_resp.specs.Reading.{StepIs, Skims, KeepsNext, keeps, is_at_start};
 
-use crate::limits::{LINE_BYTES, WORD_BYTES};
-use crate::reading::line::{add_word, has_no_room, without_return};
+use crate::limits::{LINE_BYTES, WORD_BYTES, WORDS};
+use crate::reading::foreign::is_foreign;
+use crate::reading::line::{as_words, without_return, words_in};
 use crate::reading::numbers::{count_step, mark_step, size_end_step, size_step};
 use crate::reading::phase::Phase;
 use crate::reading::protocol_error::ProtocolError;
@@ -19,8 +20,8 @@ use std::alloc::{AllocError, Global};
 use std::marker::Model;
 use std::mem;
 
-/// What has come of a command. It holds at most 1,024 words and 65,536 bytes of the one
-/// that is not whole.
+/// What has come of a command. It holds at most 1,024 words, and 4,096 bytes of the one that is not
+/// whole or 65,536 of a line.
 #[derive(Debug, Drop)]
 pub struct Machine {
     alloc: Global,
@@ -28,7 +29,7 @@ pub struct Machine {
     // How many words are still to come.
     wanted: u32,
     words: Vec<Word>,
-    // The bytes of the word that is not whole.
+    // The bytes of the word that is not whole, or of the line.
     partial: Vec<u8>,
 }
 
@@ -208,10 +209,10 @@ impl Machine {
                         number: 0,
                     }))
                 } else {
-                    self.line_step(0, byte)
+                    self.line_step(byte)
                 }
             }
-            Phase::Line { seen } => self.line_step(seen, byte),
+            Phase::Line => self.line_step(byte),
             Phase::Count { digits, number } => self.go(count_step(digits, number, byte)),
             Phase::CountEnd { number } => self.count_end_step(number, byte),
             Phase::Mark => self.go(mark_step(byte)),
@@ -255,49 +256,40 @@ impl Machine {
         Words::from_vec(words)
     }
 
-    fn line_step(&mut self, seen: u32, byte: u8) -> Result<Option<Words>, ReadError>
-        ensures { StepIs (line_step self.old seen byte) true self.old result self.new }
+    fn line_step(&mut self, byte: u8) -> Result<Option<Words>, ReadError>
+        ensures { StepIs (line_step self.old byte) true self.old result self.new }
     {
         if byte == b'\n' {
             return self.line_end();
         }
-        if LINE_BYTES <= seen {
-            return Err(ReadError::Protocol(ProtocolError::TooLong));
+        if byte == 0 {
+            return Err(ReadError::Protocol(ProtocolError::Foreign));
         }
-        if byte == b' ' {
-            return self.space_step(seen);
+        if LINE_BYTES as usize <= self.partial.len() {
+            return Err(ReadError::Protocol(ProtocolError::TooLong));
         }
         self.partial.push(byte)?;
-        self.phase = Phase::Line { seen: seen + 1 };
-        Ok(None)
-    }
-
-    fn space_step(&mut self, seen: u32) -> Result<Option<Words>, ReadError>
-        requires { seen < 65536 }
-        ensures { StepIs (space_step self.old seen) true self.old result self.new }
-    {
-        if has_no_room(&self.words, &self.partial) {
-            return Err(ReadError::Protocol(ProtocolError::TooLong));
-        }
-        add_word(self.alloc, &mut self.words, &self.partial)?;
-        self.partial.clear();
-        self.phase = Phase::Line { seen: seen + 1 };
+        self.phase = Phase::Line;
         Ok(None)
     }
 
     fn line_end(&mut self) -> Result<Option<Words>, ReadError>
-        ensures { StepIs (line_end self.old) true self.old result self.new }
+        ensures { StepIs (line_of (words_in (without_return self.old.partial))) true self.old result self.new }
     {
-        let last = without_return(&self.partial);
-        if has_no_room(&self.words, last) {
+        let words = words_in(self.alloc, without_return(&self.partial))?;
+        if is_foreign(&words) {
+            return Err(ReadError::Protocol(ProtocolError::Foreign));
+        }
+        if (WORDS as usize) < words.len() {
             return Err(ReadError::Protocol(ProtocolError::TooLong));
         }
-        add_word(self.alloc, &mut self.words, last)?;
-        if self.words.is_empty() {
+        if words.is_empty() {
             self.restart();
             return Ok(None);
         }
-        Ok(Some(self.give()))
+        let words = as_words(self.alloc, words)?;
+        self.restart();
+        Ok(Some(Words::from_vec(words)))
     }
 
     fn count_end_step(&mut self, number: u32, byte: u8) -> Result<Option<Words>, ReadError>

@@ -3,8 +3,8 @@
 pub enum Phase {
     /// A new command.
     Start,
-    /// An inline command, of which this many bytes were read.
-    Line { seen: u32 },
+    /// An inline command.
+    Line,
     /// The count of words, of which this many digits were read, with this value.
     Count { digits: u32, number: u32 },
     /// The `\n` behind the count of words.

@@ -10,4 +10,7 @@ pub enum ProtocolError {
     /// An inline command has more than 65,536 bytes or 1,024 words, or a number more than 32
     /// digits.
     TooLong,
+    /// An inline command has a byte 0, or it is a line of HTTP. A browser may have been made to
+    /// write it, so its connection is told nothing.
+    Foreign,
 }

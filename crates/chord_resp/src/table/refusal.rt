@@ -33,6 +33,4 @@ pub enum Refusal {
     StoreFull(Progress),
     /// No answer came in time. The request may still act.
     NoAnswer(Progress),
-    /// An earlier request of the connection is not answered yet.
-    Unsettled,
 }

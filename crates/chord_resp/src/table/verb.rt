@@ -1,7 +1,7 @@
 //! The names of commands.
 ghost use Rattle.std.specs.Prelude.{◌≡◌, ◌≤◌, length};
 ghost use Rattle.std.specs.Str.{str_eq_ignore_ascii_case};
-ghost use Rattle.chord_resp.specs.Table.{verb_text, all_verbs, takes, verb_of, is_text};
+ghost use Rattle.chord_resp.specs.Table.{verb_text, all_verbs, takes, verb_named, verb_of, is_text};
 
 use crate::reading::word::Word;
 
@@ -50,7 +50,7 @@ pub const ALL: [Verb; 17] = [
 
 /// Whether the bytes are the text, in upper or lower case.
 #[tactic(auto, using(crate::proofs::Texts::same_test))]
-fn is_same(bytes: &[u8], text: &[u8]) -> bool
+pub fn is_same(bytes: &[u8], text: &[u8]) -> bool
     ensures { result ≡ str_eq_ignore_ascii_case bytes.now text.now }
 {
     bytes.eq_ignore_ascii_case(text)
@@ -93,19 +93,29 @@ impl Verb {
         }
     }
 
-    /// The verb that a word names, in upper or lower case.
-    #[tactic(auto, unfolding(crate::specs::Table::verb_of))]
-    pub fn of_word(word: &Word) -> Option<Verb>
-        ensures { result ≡ verb_of word.now }
+    /// The verb that the bytes name, in upper or lower case.
+    #[tactic(auto, unfolding(crate::specs::Table::verb_named))]
+    pub fn of_name(bytes: &[u8]) -> Option<Verb>
+        ensures { result ≡ verb_named bytes.now }
     {
         let mut verbs = ALL.as_slice();
         while let [verb, more @ ..] = verbs {
-            if is_text(word, verb.text()) {
+            if is_same(bytes, verb.text()) {
                 return Some(*verb);
             }
             verbs = more;
         }
         None
+    }
+
+    /// The verb that a word names.
+    pub fn of_word(word: &Word) -> Option<Verb>
+        ensures { result ≡ verb_of word.now }
+    {
+        match word {
+            Word::Whole(bytes) => Verb::of_name(bytes.as_slice()),
+            Word::Long(_) => None,
+        }
     }
 
     /// Whether the name may be followed by that many words.

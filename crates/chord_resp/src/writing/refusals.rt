@@ -69,6 +69,7 @@ fn protocol_text(alloc: Global, fault: ProtocolError) -> Result<Vec<u8>, AllocEr
         }
         ProtocolError::BadLength => Vec::from_slice(alloc, b"invalid bulk length"),
         ProtocolError::TooLong => Vec::from_slice(alloc, b"too big inline request"),
+        ProtocolError::Foreign => Vec::from_slice(alloc, b"line of another protocol"),
     }
 }
 
@@ -99,7 +100,6 @@ fn fixed_text(refusal: &Refusal) -> &'static [u8]
         Refusal::WordLength => b"ERR word is longer than 4096 bytes",
         Refusal::NoDatabase => b"ERR DB index is out of range",
         Refusal::NoProtocol => b"NOPROTO unsupported protocol version",
-        Refusal::Unsettled => b"TRYAGAIN an earlier request is not settled",
         Refusal::Protocol(_) => b"ERR Protocol error: ",
         Refusal::UnknownCommand { .. } => b"ERR unknown command '",
         Refusal::WrongNumber(_) => b"ERR wrong number of arguments for '",

@@ -2,6 +2,7 @@
 
 mod askers;
 mod commands;
+mod foreign;
 mod growths;
 mod parts;
 mod sessions;

@@ -18,6 +18,8 @@ pub enum AtFirst {
 pub struct LateAsker {
     pub requests: Vec<Request>,
     pub retried: u64,
+    /// Up to which number the last question gave requests up.
+    pub floor: u64,
     at_first: AtFirst,
 }
 
@@ -26,6 +28,7 @@ impl LateAsker {
         LateAsker {
             requests: Vec::new(alloc),
             retried: 0,
+            floor: 0,
             at_first,
         }
     }
@@ -36,7 +39,8 @@ impl Asker for LateAsker {
 
     ghost asked = { λ a. a.requests.items };
 
-    fn ask(&mut self, request: &Request) -> Asked {
+    fn ask(&mut self, request: &Request, floor: u64) -> Asked {
+        self.floor = floor;
         if note(&mut self.requests, request) {
             match self.at_first {
                 AtFirst::Full => Asked::Full,
@@ -47,7 +51,8 @@ impl Asker for LateAsker {
         }
     }
 
-    fn retry(&mut self, number: u64) -> Asked {
+    fn retry(&mut self, number: u64, floor: u64) -> Asked {
+        self.floor = floor;
         self.retried = self.retried.wrapping_add(1);
         if number == 0 {
             return Asked::NoAnswer;
@@ -84,14 +89,14 @@ impl Asker for OutOfMemoryAt {
 
     ghost asked = { λ a. a.requests.items };
 
-    fn ask(&mut self, request: &Request) -> Asked {
+    fn ask(&mut self, request: &Request, _floor: u64) -> Asked {
         if !note(&mut self.requests, request) || self.requests.len() == self.number {
             return Asked::Memory;
         }
         added(request)
     }
 
-    fn retry(&mut self, _number: u64) -> Asked {
+    fn retry(&mut self, _number: u64, _floor: u64) -> Asked {
         Asked::NoAnswer
     }
 

@@ -1,24 +1,13 @@
 //! Sessions without a connection: found by their whole tokens, and dropped oldest first.
 
 use crate::checks::check;
-use chord_serve::{ClientSession, KeptSessions, MayBePending};
+use chord_serve::{ClientSession, KeptSessions};
 use chord_wire::Token;
 use std::alloc::Global;
 
-/// An asker with a number, which may have a pending request.
+/// An asker with a number.
 #[derive(Clone, Copy)]
-struct Numbered {
-    number: u8,
-    is_pending: bool,
-}
-
-impl MayBePending for Numbered {
-    ghost pending = { λ a. a.is_pending };
-
-    fn is_pending(&self) -> bool {
-        self.is_pending
-    }
-}
+struct Numbered(u8);
 
 /// A token whose last byte is this one.
 fn token(last: u8) -> Token {
@@ -30,7 +19,7 @@ fn token(last: u8) -> Token {
 /// Keeps the session of this number; whether there was memory for it.
 fn keep(alloc: Global, kept: &mut KeptSessions<Numbered>, asker: Numbered, since: u64) -> bool {
     let client = ClientSession::new(alloc, asker);
-    match kept.keep(token(asker.number), since, client) {
+    match kept.keep(token(asker.0), since, client) {
         Ok(()) => true,
         Err(client) => {
             client.into_asker();
@@ -41,20 +30,15 @@ fn keep(alloc: Global, kept: &mut KeptSessions<Numbered>, asker: Numbered, since
 
 /// The number of the session, if there is one.
 fn number_of(client: Option<ClientSession<Numbered>>) -> Option<u8> {
-    Some(client?.into_asker().number)
+    Some(client?.into_asker().0)
 }
 
-/// The sessions 1 to 4, which lost their connections at the moments 10, 20, 30 and 40. The first
-/// has a pending request.
+/// The sessions 1 to 4, which lost their connections at the moments 10, 20, 30 and 40.
 fn four(alloc: Global) -> Option<KeptSessions<Numbered>> {
     let mut kept = KeptSessions::new(alloc);
     let mut are_kept = true;
     for (number, since) in [(1u8, 10), (2, 20), (3, 30), (4, 40)] {
-        let asker = Numbered {
-            number,
-            is_pending: number == 1,
-        };
-        are_kept &= keep(alloc, &mut kept, asker, since);
+        are_kept &= keep(alloc, &mut kept, Numbered(number), since);
     }
     are_kept.then_some(kept)
 }
@@ -82,61 +66,33 @@ fn a_session_is_found_by_its_whole_token(rt: HostRuntime) {
     check!(&rt; none == None, "one byte differs");
     check!(&rt; second == Some(2), "it is taken by its token");
     check!(&rt; again == None, "it is taken once");
-    check!(&rt;
-        first == Some(1),
-        "a pending request does not keep a client away"
-    );
+    check!(&rt; first == Some(1), "so is another");
     check!(&rt; left == 2, "two of four were taken");
 }
 
 #[test]
-fn the_oldest_session_is_taken_first_and_no_pending_one(rt: HostRuntime) {
+fn the_oldest_session_is_taken_first(rt: HostRuntime) {
     let mut kept = four(rt.alloc()).expect(&rt, "memory for four sessions");
-    let early = number_of(kept.take_oldest(19));
-    let second = number_of(kept.take_oldest(30));
-    let third = number_of(kept.take_oldest(30));
-    let young = number_of(kept.take_oldest(39));
-    let fourth = number_of(kept.take_oldest(40));
-    let pending = number_of(kept.take_oldest(u64::MAX));
+    let early = number_of(kept.take_oldest(9));
+    let first = number_of(kept.take_oldest(20));
+    let second = number_of(kept.take_oldest(20));
+    let young = number_of(kept.take_oldest(29));
+    let third = number_of(kept.take_oldest(u64::MAX));
     let left = kept.len();
     drop(kept);
-    check!(&rt;
-        early == None,
-        "the first is pending, the others are younger"
-    );
-    check!(&rt;
-        (second, third) == (Some(2), Some(3)),
-        "the oldest of those that are not pending comes first"
-    );
-    check!(&rt; young == None, "the fourth is younger");
-    check!(&rt; fourth == Some(4), "then it is old enough");
-    check!(&rt; pending == None, "the first stays");
+    check!(&rt; early == None, "all are younger");
+    check!(&rt; (first, second) == (Some(1), Some(2)), "the oldest comes first");
+    check!(&rt; young == None, "the third is younger");
+    check!(&rt; third == Some(3), "then it is old enough");
     check!(&rt; left == 1, "three of four were taken");
 }
 
-#[test]
-fn the_first_session_is_taken_though_it_is_pending(rt: HostRuntime) {
-    let mut kept = four(rt.alloc()).expect(&rt, "memory for four sessions");
-    let mut are_in_order = true;
-    for number in 1..=4u8 {
-        are_in_order &= number_of(kept.take_first()) == Some(number);
-    }
-    let none = number_of(kept.take_first());
-    drop(kept);
-    check!(&rt; are_in_order, "the first is taken first, though pending");
-    check!(&rt; none == None, "no session is left");
-}
-
-/// The sessions 1 to 200, of which each tenth has a pending request.
+/// The sessions 1 to 200.
 fn two_hundred(alloc: Global) -> Option<KeptSessions<Numbered>> {
     let mut kept = KeptSessions::new(alloc);
     let mut are_kept = true;
     for number in 1..=200u8 {
-        let asker = Numbered {
-            number,
-            is_pending: number % 10 == 0,
-        };
-        are_kept &= keep(alloc, &mut kept, asker, u64::from(number));
+        are_kept &= keep(alloc, &mut kept, Numbered(number), u64::from(number));
     }
     are_kept.then_some(kept)
 }
@@ -145,16 +101,14 @@ fn two_hundred(alloc: Global) -> Option<KeptSessions<Numbered>> {
 fn two_hundred_sessions_are_dropped_in_order(rt: HostRuntime) {
     let mut kept = two_hundred(rt.alloc()).expect(&rt, "memory for 200 sessions");
     let mut are_in_order = true;
-    for number in 1..=200u8 {
-        if number % 10 != 0 {
-            are_in_order &= number_of(kept.take_oldest(200)) == Some(number);
-        }
+    for number in 1..=190u8 {
+        are_in_order &= number_of(kept.take_oldest(190)) == Some(number);
     }
-    let none = number_of(kept.take_oldest(200));
+    let none = number_of(kept.take_oldest(190));
     let (left, gone) = (kept.len(), kept.knows(token(11)));
     drop(kept);
-    check!(&rt; are_in_order, "the oldest first, and no pending one");
-    check!(&rt; none == None, "those that are left are pending");
-    check!(&rt; left == 20, "each tenth is left");
+    check!(&rt; are_in_order, "the oldest first");
+    check!(&rt; none == None, "those that are left are younger");
+    check!(&rt; left == 10, "the last ten are left");
     check!(&rt; !gone, "a dropped session is not known");
 }

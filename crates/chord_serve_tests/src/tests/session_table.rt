@@ -1,22 +1,12 @@
 //! The sessions of a server: each token names one, and one connection at most has it.
-ghost use Rattle.std.specs.Prelude.{false};
-
 use crate::checks::check;
-use chord_serve::{BeginRefusal, ClientSession, MayBePending, Resumed, SessionTable};
+use chord_serve::{BeginRefusal, ClientSession, Resumed, SessionTable};
 use chord_wire::Token;
 use std::alloc::Global;
 
-/// An asker with a number, which has no pending request.
+/// An asker with a number.
 #[derive(Clone, Copy, PartialEq, Eq)]
 struct Numbered(u8);
-
-impl MayBePending for Numbered {
-    ghost pending = { λ a. false };
-
-    fn is_pending(&self) -> bool {
-        false
-    }
-}
 
 /// What a resumed session is, with its asker's number if it goes on.
 #[derive(Clone, Copy, PartialEq, Eq)]
@@ -136,21 +126,4 @@ fn the_oldest_kept_session_is_dropped(rt: HostRuntime) {
         (next, none) == (Some(Numbered(1)), None),
         "then the first is dropped, and none is left"
     );
-}
-
-#[test]
-fn all_kept_sessions_are_dropped_in_order(rt: HostRuntime) {
-    let alloc = rt.alloc();
-    let mut table = two(alloc).expect(&rt, "memory for two sessions");
-    let is_parted = part(alloc, &mut table, 1, 9);
-    let first = table.drop_first();
-    let second = table.drop_first();
-    let none = table.drop_first();
-    drop(table);
-    check!(&rt; is_parted, "there was memory");
-    check!(&rt;
-        (first, second) == (Some(Numbered(2)), Some(Numbered(1))),
-        "the second lost its connection first"
-    );
-    check!(&rt; none == None, "no session is left");
 }

@@ -174,22 +174,25 @@ fn mapped(alloc: Global, input: &[&[u8]], output: &[&[u8]]) -> Option<Talk> {
     Some(Talk { seen: seen?, asked })
 }
 
-/// A session over an asker that has no reply at first, and how often it was asked again.
+/// A session over an asker that has no reply at first, how often it was asked again, and up to which
+/// number the last question gave requests up.
 #[derive(Clone, Copy)]
 struct LateTalk {
     seen: Seen,
     asked: usize,
     retried: u64,
+    floor: u64,
 }
 
 fn late(alloc: Global, at_first: AtFirst, input: &[&[u8]], output: &[&[u8]]) -> Option<LateTalk> {
     let (seen, asker) = session(alloc, LateAsker::new(alloc, at_first), input, output);
-    let (asked, retried) = (asker.requests.len(), asker.retried);
+    let (asked, retried, floor) = (asker.requests.len(), asker.retried, asker.floor);
     drop(asker);
     Some(LateTalk {
         seen: seen?,
         asked,
         retried,
+        floor,
     })
 }
 
@@ -277,7 +280,9 @@ fn a_request_without_an_answer_gets_fault_11(rt: HostRuntime) {
     );
 }
 
-/// Requests 1 and 2 have no reply, so floor 1 is refused until 1 has one.
+/// Requests 1 and 2 get no reply. Floor 1 gives up 1, and 2 is added when it is asked again. Then
+/// request 3 gets no reply either; 1 and 2 are at or below the floor; and 3 is added when it is
+/// asked again, in a frame with a lower floor.
 const FLOORS: &[&[u8]] = &[
     &INSERT_2,
     b"\x00\x00\x00\x17\x02\x01\x00\x00\x00\x00\x00\x00\x00\x02\x00\x00\x00\x00\x00\x00\x00\x00\x01a\x00\x01x",
@@ -285,21 +290,21 @@ const FLOORS: &[&[u8]] = &[
     b"\x00\x00\x00\x17\x02\x01\x00\x00\x00\x00\x00\x00\x00\x03\x00\x00\x00\x00\x00\x00\x00\x02\x01a\x00\x01x",
     &INSERT_2,
     b"\x00\x00\x00\x17\x02\x01\x00\x00\x00\x00\x00\x00\x00\x02\x00\x00\x00\x00\x00\x00\x00\x01\x01a\x00\x01x",
-    &INSERT_2,
+    b"\x00\x00\x00\x17\x02\x01\x00\x00\x00\x00\x00\x00\x00\x03\x00\x00\x00\x00\x00\x00\x00\x00\x01a\x00\x01x",
 ];
 
 const FLOORS_ANSWERED: &[&[u8]] = &[
     b"\x00\x00\x00\x0b\x01\xff\x00\x00\x00\x00\x00\x00\x00\x01\x0a",
     b"\x00\x00\x00\x0b\x01\xff\x00\x00\x00\x00\x00\x00\x00\x02\x0a",
-    b"\x00\x00\x00\x0b\x01\xff\x00\x00\x00\x00\x00\x00\x00\x02\x09",
-    b"\x00\x00\x00\x0b\x01\xff\x00\x00\x00\x00\x00\x00\x00\x03\x09",
-    &ADDED,
     b"\x00\x00\x00\x0b\x01\x81\x00\x00\x00\x00\x00\x00\x00\x02\x01",
+    b"\x00\x00\x00\x0b\x01\xff\x00\x00\x00\x00\x00\x00\x00\x03\x0a",
     b"\x00\x00\x00\x0b\x01\xff\x00\x00\x00\x00\x00\x00\x00\x01\x09",
+    b"\x00\x00\x00\x0b\x01\xff\x00\x00\x00\x00\x00\x00\x00\x02\x09",
+    b"\x00\x00\x00\x0b\x01\x81\x00\x00\x00\x00\x00\x00\x00\x03\x01",
 ];
 
 #[test]
-fn no_floor_is_above_a_number_without_a_reply(rt: HostRuntime) {
+fn a_floor_gives_up_numbers_without_a_reply(rt: HostRuntime) {
     let talk = late(rt.alloc(), AtFirst::Full, FLOORS, FLOORS_ANSWERED);
     let talk = talk.expect(&rt, "memory for seven frames");
     check!(&rt;
@@ -308,10 +313,33 @@ fn no_floor_is_above_a_number_without_a_reply(rt: HostRuntime) {
     );
     check!(&rt;
         talk.seen.is_whole,
-        "9 for a floor too high, and for a number at or below it"
+        "a floor may pass a number with fault 10, which then has fault 9"
     );
-    check!(&rt; talk.asked == 2, "requests 1 and 2 are new once each");
-    check!(&rt; talk.retried == 2, "each is asked again once");
+    check!(&rt; talk.asked == 3, "requests 1 to 3 are new once each");
+    check!(&rt; talk.retried == 2, "2 and 3 are asked again once");
+    check!(&rt; talk.floor == 2, "the last question has the session's floor");
+}
+
+/// Two inserts in version 1, of which a number gives up all below it; and the first one again.
+const VERSION_1: &[&[u8]] = &[
+    &INSERT,
+    b"\x00\x00\x00\x0f\x01\x01\x00\x00\x00\x00\x00\x00\x00\x02\x01a\x00\x01y",
+    &INSERT,
+];
+
+const VERSION_1_ANSWERED: &[&[u8]] = &[
+    b"\x00\x00\x00\x0b\x01\xff\x00\x00\x00\x00\x00\x00\x00\x01\x0b",
+    b"\x00\x00\x00\x0b\x01\xff\x00\x00\x00\x00\x00\x00\x00\x02\x0b",
+    b"\x00\x00\x00\x0b\x01\xff\x00\x00\x00\x00\x00\x00\x00\x01\x09",
+];
+
+#[test]
+fn version_1_goes_on_behind_a_fault(rt: HostRuntime) {
+    let talk = late(rt.alloc(), AtFirst::NoAnswer, VERSION_1, VERSION_1_ANSWERED);
+    let talk = talk.expect(&rt, "memory for three frames");
+    check!(&rt; talk.seen.is_whole, "the next number is asked, and gives up the one before");
+    check!(&rt; talk.asked == 2 && talk.retried == 0, "each once");
+    check!(&rt; talk.floor == 1, "the first is given up");
 }
 
 /// An input, how it ends, its answers, and how many requests are asked.

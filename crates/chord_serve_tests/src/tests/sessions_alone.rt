@@ -90,17 +90,18 @@ const REUSED: Move = Move::Refuse(FaultCode::NumberReused);
 /// Requests in the order in which they come: number and floor, value, the reply of that number, the
 /// move, and then floor, last number and bytes of the session. The rules are those of
 /// docs/protocol.md.
-const ROWS: [((u64, u64), u8, Option<u8>, Move, (u64, u64, u64)); 10] = [
+const ROWS: [((u64, u64), u8, Option<u8>, Move, (u64, u64, u64)); 11] = [
     ((2, 0), b'b', None, BAD_NUMBER, (0, 0, 0)),
     ((1, 0), b'a', Some(b'A'), Move::Ask, (0, 1, 3)),
     ((1, 0), b'a', Some(b'A'), Move::Again, (0, 1, 3)),
     ((1, 0), b'x', Some(b'A'), REUSED, (0, 1, 3)),
     ((2, 0), b'b', None, Move::Ask, (0, 2, 3)),
-    ((3, 2), b'c', None, BAD_NUMBER, (0, 2, 3)),
     ((3, 0), b'c', Some(b'C'), Move::Ask, (0, 3, 6)),
     ((2, 1), b'b', Some(b'B'), Move::Retry, (1, 3, 6)),
     ((1, 0), b'a', None, BAD_NUMBER, (1, 3, 6)),
     ((4, 3), b'd', None, Move::Ask, (3, 4, 0)),
+    ((5, 4), b'e', Some(b'E'), Move::Ask, (4, 5, 3)),
+    ((4, 3), b'd', None, BAD_NUMBER, (4, 5, 3)),
 ];
 
 #[test]

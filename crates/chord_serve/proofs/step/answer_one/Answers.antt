@@ -22,10 +22,10 @@ pub returns-in_ok-add-in-Ask : goal.returns-in_ok-add-in-Ask
 returns-in_ok-add-in-Ask g c =
     let before : c.add-in-Ask.new.self ≡ with_open_request c.accept.new.self c.args.wire.request = c.in_ok-add-in-Ask.ensures.ok in
     let same = newest_is c.accept.new.self c.args.wire.request c.newest.result.now (rw before at c.newest.ensures) in
-    asks_new g.A.Asker.answers c.tell.result c.ask-answer.result c.newest.result.now c.accept.new.self c.add-in-Ask.new.self c.tell.new.session c.args.session.now c.args.asker.now c.ask-answer.new.self c.args.wire c.args.due.now c.tell.new.due c.in-Ask.ensures.call c.in-Ask.ensures.state
-    before same c.ask-answer.ensures.answer c.tell.ensures.due c.tell.ensures.told c.tell.ensures.answered
+    asks_new g.A.Asker.answers c.tell.result c.ask-answer.result c.newest.result.now c.floor.result c.accept.new.self c.add-in-Ask.new.self c.tell.new.session c.args.session.now c.args.asker.now c.ask-answer.new.self c.args.wire c.args.due.now c.tell.new.due c.in-Ask.ensures.call c.in-Ask.ensures.state
+    before same c.floor.ensures c.ask-answer.ensures.answer c.tell.ensures.due c.tell.ensures.told c.tell.ensures.answered
 
 pub returns-in-Retry : goal.returns-in-Retry
 returns-in-Retry g c =
-    asks_again g.A.Asker.answers c.tell-in-Retry.result c.retry-answer.result c.accept.new.self c.tell-in-Retry.new.session c.args.session.now c.args.asker.now c.retry-answer.new.self c.args.wire c.args.due.now c.tell-in-Retry.new.due c.in-Retry.ensures.call c.in-Retry.ensures.state
-    c.retry-answer.ensures.answer c.tell-in-Retry.ensures.due c.tell-in-Retry.ensures.told c.tell-in-Retry.ensures.answered
+    asks_again g.A.Asker.answers c.tell-in-Retry.result c.retry-answer.result c.floor-in-Retry.result c.accept.new.self c.tell-in-Retry.new.session c.args.session.now c.args.asker.now c.retry-answer.new.self c.args.wire c.args.due.now c.tell-in-Retry.new.due c.in-Retry.ensures.call c.in-Retry.ensures.state
+    c.floor-in-Retry.ensures c.retry-answer.ensures.answer c.tell-in-Retry.ensures.due c.tell-in-Retry.ensures.told c.tell-in-Retry.ensures.answered

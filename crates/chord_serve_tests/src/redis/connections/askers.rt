@@ -14,24 +14,11 @@ pub enum Trouble {
     Memory,
 }
 
-/// Which new request is not replied to, and how often it is sent again in vain.
+/// Which request gets this in place of its reply.
 #[derive(Clone, Copy)]
 pub struct Script {
     pub number: usize,
     pub trouble: Trouble,
-    pub vain: u64,
-}
-
-impl Script {
-    /// The new request of this number gets this in place of its reply. It is sent again `vain`
-    /// times in vain.
-    pub fn new(number: usize, trouble: Trouble, vain: u64) -> Script {
-        Script {
-            number,
-            trouble,
-            vain,
-        }
-    }
 }
 
 /// Answers from one plain map, but for the request of the script, and lists the requests asked.
@@ -40,7 +27,8 @@ pub struct Scripted {
     map: PlainMap,
     pub requests: Vec<Request>,
     script: Script,
-    pub retried: u64,
+    /// Whether each question gave up all requests before it.
+    pub gives_up: bool,
 }
 
 impl Scripted {
@@ -49,7 +37,7 @@ impl Scripted {
             map: PlainMap::new(alloc),
             requests: Vec::new(alloc),
             script,
-            retried: 0,
+            gives_up: true,
         }
     }
 }
@@ -59,7 +47,8 @@ impl Asker for Scripted {
 
     ghost asked = { λ a. a.requests.items };
 
-    fn ask(&mut self, request: &Request) -> Asked {
+    fn ask(&mut self, request: &Request, floor: u64) -> Asked {
+        self.gives_up &= floor == self.requests.len() as u64;
         if !note(&mut self.requests, request) {
             return Asked::Memory;
         }
@@ -73,15 +62,9 @@ impl Asker for Scripted {
         asked_of(&mut self.map, request)
     }
 
-    fn retry(&mut self, number: u64) -> Asked {
-        self.retried = self.retried.wrapping_add(1);
-        if number == 0 || self.retried <= self.script.vain {
-            return Asked::NoAnswer;
-        }
-        match self.requests.get((number - 1) as usize) {
-            None => Asked::NoAnswer,
-            Some(request) => asked_of(&mut self.map, request),
-        }
+    fn retry(&mut self, _number: u64, _floor: u64) -> Asked {
+        self.gives_up = false;
+        Asked::NoAnswer
     }
 
     ghost notes = { λ a b question answer heard. heard.notes };

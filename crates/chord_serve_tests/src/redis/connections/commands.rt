@@ -6,7 +6,7 @@ use chord_resp::{Command, Commands};
 use chord_resp_serve::{About, Flow, Numbers, answer_command, answer_words};
 use std::alloc::{AllocError, Global};
 
-/// The requests that were asked, as text, and how often one was sent again.
+/// The requests that were asked, as text, and a `!` unless each gave up all before it.
 fn show_requests(text: &mut Vec<u8>, asker: &Scripted) -> Result<(), AllocError> {
     for request in &asker.requests {
         let name = match request {
@@ -17,10 +17,10 @@ fn show_requests(text: &mut Vec<u8>, asker: &Scripted) -> Result<(), AllocError>
         text.extend_from_slice(name.as_slice())?;
         text.extend_from_slice(request.value())?;
     }
-    for _ in 0..asker.retried.min(9) {
-        text.extend_from_slice(b"!")?;
+    if asker.gives_up {
+        return Ok(());
     }
-    Ok(())
+    text.extend_from_slice(b"!")
 }
 
 /// Answers the commands of the stream up to QUIT or the end of memory, in which case it adds a `#`.
@@ -34,10 +34,7 @@ fn answer_all(
         number: 7,
         info: b"a:b\n",
     };
-    let mut numbers = Numbers {
-        asked: 0,
-        pending: None,
-    };
+    let mut numbers = Numbers { asked: 0 };
     for _ in 0..100 {
         let Some(words) = commands.next().ok()? else {
             return Some(());
@@ -83,7 +80,6 @@ fn is_answered(alloc: Global, input: &[u8], script: Script, want: &[u8]) -> Opti
 const NO_TROUBLE: Script = Script {
     number: 0,
     trouble: Trouble::Memory,
-    vain: 0,
 };
 
 #[test]
@@ -112,29 +108,44 @@ fn commands_that_ask_nothing(rt: HostRuntime) {
 
 #[test]
 fn a_full_store_ends_a_command(rt: HostRuntime) {
-    let script = Script::new(2, Trouble::Full, 1);
-    let input = b"sadd k a b c\nping\nscard k\nscard k\nscard k\n";
+    let script = Script {
+        number: 2,
+        trouble: Trouble::Full,
+    };
+    let input = b"sadd k a b c\nping\nscard k\nsrem k a\nsadd k c\n";
     let want =
-        b"-OOM the node's store is full, 1 of 3 done\r\n+PONG\r\n-TRYAGAIN an earlier request is not settled\r\n:2\r\n:2\r\n+a+b??!!";
+        b"-OOM the node's store is full, 1 of 3 done\r\n+PONG\r\n:1\r\n:1\r\n:1\r\n+a+b?-a+c";
     let is_so = is_answered(rt.alloc(), input, script, want);
-    check!(&rt;
-        is_so == Some(true),
-        "it is sent again before the next question"
-    );
+    check!(&rt; is_so == Some(true), "the next command is served at once");
 }
 
 #[test]
 fn no_answer_ends_a_command(rt: HostRuntime) {
-    let script = Script::new(1, Trouble::NoAnswer, 0);
-    let input = b"sadd k a\nscard k\n";
-    let want = b"-TRYAGAIN no answer in time, it may have acted\r\n:1\r\n+a?!";
-    let is_so = is_answered(rt.alloc(), input, script, want);
-    check!(&rt; is_so == Some(true), "it may have acted");
+    for (input, want) in [
+        (
+            b"sadd k a b\nscard k\nsadd k c\n".as_slice(),
+            b"-TRYAGAIN no answer in time, it may have acted, 0 of 2 done\r\n:0\r\n:1\r\n+a?+c".as_slice(),
+        ),
+        (
+            b"scard k\nsadd k a\n",
+            b"-TRYAGAIN no answer in time, it may have acted\r\n:1\r\n?+a",
+        ),
+    ] {
+        let script = Script {
+            number: 1,
+            trouble: Trouble::NoAnswer,
+        };
+        let is_so = is_answered(rt.alloc(), input, script, want);
+        assert!(rt; is_so == Some(true), "{input:?}");
+    }
 }
 
 #[test]
 fn memory_ends_the_connection(rt: HostRuntime) {
-    let script = Script::new(2, Trouble::Memory, 0);
+    let script = Script {
+        number: 2,
+        trouble: Trouble::Memory,
+    };
     let is_so = is_answered(rt.alloc(), b"sadd k a b c\nping\n", script, b"#+a+b");
     check!(&rt;
         is_so == Some(true),
@@ -145,10 +156,7 @@ fn memory_ends_the_connection(rt: HostRuntime) {
 /// What is written for a command that is told whole, and how many requests it asked.
 fn told(alloc: Global, command: Command, want: &[u8]) -> Option<(bool, u64)> {
     let mut asker = Scripted::new(alloc, NO_TROUBLE);
-    let mut numbers = Numbers {
-        asked: 0,
-        pending: None,
-    };
+    let mut numbers = Numbers { asked: 0 };
     let about = About {
         number: 7,
         info: b"a:b\n",

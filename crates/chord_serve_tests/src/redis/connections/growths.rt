@@ -241,10 +241,7 @@ fn is_right(alloc: Global, asker: &mut Scripted, numbers: &mut Numbers, row: &Ro
 /// The first command that is not answered so.
 fn wrong_row(alloc: Global) -> Option<usize> {
     let mut asker = Scripted::new(alloc, NO_TROUBLE);
-    let mut numbers = Numbers {
-        asked: 0,
-        pending: None,
-    };
+    let mut numbers = Numbers { asked: 0 };
     let mut wrong = None;
     for (place, row) in ROWS.iter().enumerate() {
         if is_right(alloc, &mut asker, &mut numbers, row) != Some(true) {

@@ -9,7 +9,7 @@ use chord_serve_testkit::{FREE, Limited, Limits};
 use std::alloc::Global;
 
 /// A connection that has read nothing.
-fn fresh(alloc: Global) -> WaitingConnection<'static, Scripted, OneLine> {
+pub fn fresh(alloc: Global) -> WaitingConnection<'static, Scripted, OneLine> {
     let server = ServerInfo {
         number: 7,
         source: &OneLine,

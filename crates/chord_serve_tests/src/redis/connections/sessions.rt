@@ -18,7 +18,6 @@ pub const ANSWERS: &[u8] = b":1\r\n*1\r\n$1\r\nv\r\n+PONG\r\n";
 pub const NO_TROUBLE: Script = Script {
     number: 0,
     trouble: Trouble::Memory,
-    vain: 0,
 };
 
 /// Tells one line.
@@ -291,7 +290,10 @@ fn the_server_tells_its_text_and_the_connections_number(rt: HostRuntime) {
 
 #[test]
 fn what_is_due_is_written_before_memory_ends_a_connection(rt: HostRuntime) {
-    let script = Script::new(2, Trouble::Memory, 0);
+    let script = Script {
+        number: 2,
+        trouble: Trouble::Memory,
+    };
     let got = connected(rt.alloc(), (COMMANDS, ANSWERS), AMPLE, script);
     check!(&rt; got.end == Served::Memory, "memory ran out");
     check!(&rt; got.written == Some(4), "the first answer is written");

@@ -87,11 +87,6 @@ fn errors_of_the_ring(rt: HostRuntime) {
         is_told(rt.alloc(), Refusal::NoAnswer(ONE), late),
         "no answer"
     );
-    let pending = b"-TRYAGAIN an earlier request is not settled\r\n";
-    check!(&rt;
-        is_told(rt.alloc(), Refusal::Unsettled, pending),
-        "a request that is pending"
-    );
 }
 
 #[test]

@@ -12,7 +12,7 @@ struct Row {
 }
 
 // What clients write.
-const COMMANDS: [Row; 15] = [
+const COMMANDS: [Row; 23] = [
     Row {
         bytes: b"",
         commands: b"",
@@ -88,10 +88,50 @@ const COMMANDS: [Row; 15] = [
         commands: b"",
         stop: Stop::Within,
     },
+    Row {
+        bytes: b"sadd k HTTP/1.1\r\n",
+        commands: b"sadd,k,HTTP/1.1,;",
+        stop: Stop::Between,
+    },
+    Row {
+        bytes: b"get / http/1.1\r\n",
+        commands: b"get,/,http/1.1,;",
+        stop: Stop::Between,
+    },
+    Row {
+        bytes: b"get / x HTTP/1.1\r\n",
+        commands: b"get,/,x,HTTP/1.1,;",
+        stop: Stop::Between,
+    },
+    Row {
+        bytes: b"get HTTP/1.1\r\n",
+        commands: b"get,HTTP/1.1,;",
+        stop: Stop::Between,
+    },
+    Row {
+        bytes: b"get / HTTP\r\n",
+        commands: b"get,/,HTTP,;",
+        stop: Stop::Between,
+    },
+    Row {
+        bytes: b"posts\nhost\na post\na host:\n",
+        commands: b"posts,;host,;a,post,;a,host:,;",
+        stop: Stop::Between,
+    },
+    Row {
+        bytes: b"*3\r\n$4\r\nPOST\r\n$5\r\nHost:\r\n$8\r\nHTTP/1.1\r\n",
+        commands: b"POST,Host:,HTTP/1.1,;",
+        stop: Stop::Between,
+    },
+    Row {
+        bytes: b"*1\r\n$1\r\n\0\r\n",
+        commands: b"\0,;",
+        stop: Stop::Between,
+    },
 ];
 
 // What is no command.
-const ERRORS: [Row; 13] = [
+const ERRORS: [Row; 23] = [
     Row {
         bytes: b"*x\r\n",
         commands: b"",
@@ -156,6 +196,56 @@ const ERRORS: [Row; 13] = [
         bytes: b"*000000000000000000000000000000001\r\n",
         commands: b"",
         stop: Stop::Protocol(ProtocolError::TooLong),
+    },
+    Row {
+        bytes: b"a\n\0",
+        commands: b"a,;",
+        stop: Stop::Protocol(ProtocolError::Foreign),
+    },
+    Row {
+        bytes: b"ab\0cd\n",
+        commands: b"",
+        stop: Stop::Protocol(ProtocolError::Foreign),
+    },
+    Row {
+        bytes: b"POST\n",
+        commands: b"",
+        stop: Stop::Protocol(ProtocolError::Foreign),
+    },
+    Row {
+        bytes: b"a\n  poSt / x\n",
+        commands: b"a,;",
+        stop: Stop::Protocol(ProtocolError::Foreign),
+    },
+    Row {
+        bytes: b"Host: a\r\n",
+        commands: b"",
+        stop: Stop::Protocol(ProtocolError::Foreign),
+    },
+    Row {
+        bytes: b"HOST:a b c d\r\n",
+        commands: b"",
+        stop: Stop::Protocol(ProtocolError::Foreign),
+    },
+    Row {
+        bytes: b"GET / HTTP/1.1\r\n",
+        commands: b"",
+        stop: Stop::Protocol(ProtocolError::Foreign),
+    },
+    Row {
+        bytes: b"PRI * HTTP/2.0\r\n",
+        commands: b"",
+        stop: Stop::Protocol(ProtocolError::Foreign),
+    },
+    Row {
+        bytes: b" get  / HTTP/  \r\n",
+        commands: b"",
+        stop: Stop::Protocol(ProtocolError::Foreign),
+    },
+    Row {
+        bytes: b"a\nx y HTTP/1.1\nb\n",
+        commands: b"a,;",
+        stop: Stop::Protocol(ProtocolError::Foreign),
     },
 ];
 
@@ -260,6 +350,18 @@ fn an_inline_command_has_at_most_65536_bytes(rt: HostRuntime) {
     check!(&rt; over == Some((0, too_long)), "one more is refused");
 }
 
+/// A word above 4,096 bytes is kept by its length alone, but it is looked at before.
+#[test]
+fn a_line_of_http_has_words_of_any_length(rt: HostRuntime) {
+    let foreign = Some((0, Stop::Protocol(ProtocolError::Foreign)));
+    let host = length_of_word(rt.alloc(), b"Host:", 5_000);
+    check!(&rt; host == foreign, "a header");
+    let version = length_of_word(rt.alloc(), b"GET / HTTP/", 5_000);
+    check!(&rt; version == foreign, "a version");
+    let target = length_of_word(rt.alloc(), b"GET HTTP/1.1 HTTP/1.1", 5_000);
+    check!(&rt; target == foreign, "the last of three words");
+}
+
 /// Why reading stopped at an inline command of `count` words.
 fn stop_of_words(alloc: Global, count: usize) -> Option<Stop> {
     let mut bytes = Vec::new(alloc);
@@ -309,6 +411,8 @@ fn laws_can_be_called(_rt: HostRuntime) {
     laws::cuts_do_not_matter();
     laws::arrays_are_read();
     laws::inline_commands_are_read();
+    laws::lines_are_read();
+    laws::lines_with_a_byte_0_are_refused();
 }
 
 /// Whether the words of a command are these two, taken out of it.

@@ -360,6 +360,8 @@ fn verbs_of_words(rt: HostRuntime) {
         Verb::of_word(&Word::Long(4097)).is_none(),
         "a long word is no name"
     );
+    check!(&rt; Verb::of_name(b"SADD") == Some(Verb::Sadd), "its bytes");
+    check!(&rt; Verb::of_name(b"sad").is_none(), "no name");
     check!(&rt;
         Verb::Smembers.text() == b"smembers".as_slice(),
         "its name in lower case"
