@@ -1,3 +1,4 @@
+pub mod Copies
 pub mod Counts
 pub mod Questions
 pub mod Recorded

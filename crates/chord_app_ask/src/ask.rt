@@ -1,5 +1,6 @@
 //! The command `ask`: requests of one client, and one line out for each.
 
+pub mod copy;
 pub mod group;
 pub mod input;
 pub mod line;

@@ -5,7 +5,8 @@
 mod ask;
 mod load;
 
-pub use ask::input::{ask_lines, ask_one};
+pub use ask::copy::CopyRead;
+pub use ask::input::{ask_copy, ask_lines, ask_one};
 pub use ask::line::{read_line, read_words};
 pub use ask::link::ClientOptions;
 pub use ask::outcome::AskOutcome;

@@ -7,7 +7,7 @@ use Rattle.std.specs.declared.cmp.Ordering.{Ordering}
 use Rattle.std.specs.declared.cmp.Ordering.TheVariants.{Less, Equal, Greater}
 use Rattle.serde_json.specs.Data.{Data, Members, no_members, member, put}
 use Rattle.serde_json.specs.Written.{has_float, members_have_float}
-use Rattle.chord_app_operator.specs.declared.sight.node.NodeSight.{NodeSight}
+use Rattle.chord_app_operator.specs.declared.sight.node.StoredNode.{StoredNode}
 use Rattle.chord_app_operator.specs.declared.sight.ring.RingSight.{RingSight}
 use Rattle.chord_app_operator.specs.declared.sight.traffic.EndCounts.{EndCounts}
 use Rattle.chord_app_operator.specs.declared.sight.traffic.SessionCounts.{SessionCounts}
@@ -41,19 +41,20 @@ optional_no_float : (n : Option ℕ) → has_float (optional_data n) ≡ false
 optional_no_float None = refl
 optional_no_float (Some n) = refl
 
-node_no_float : (n : NodeSight) → has_float (node_data n) ≡ false
+node_no_float : (n : StoredNode) → has_float (node_data n) ≡ false
 node_no_float n =
+    let s = n.sight in
     let names = members_no_float (name_members n) no_members (refl, (refl, (refl, (refl, tt)))) refl in
-    let links = members_no_float (link_members n) (with_members no_members (name_members n)) (optional_no_float n.predecessor, (list_no_float count_data (λ _. refl) n.successors.items, (refl, tt))) names in
-    let held = members_no_float (held_members n) (with_members (with_members no_members (name_members n)) (link_members n)) (
-      list_no_float segment_data (λ s. record_no_float (segment_members s) (refl, (refl, (refl, tt)))) n.segments.items,
+    let links = members_no_float (link_members s) (with_members no_members (name_members n)) (optional_no_float s.predecessor, (list_no_float count_data (λ _. refl) s.successors.items, (refl, tt))) names in
+    let held = members_no_float (held_members s) (with_members (with_members no_members (name_members n)) (link_members s)) (
+      list_no_float segment_data (λ s. record_no_float (segment_members s) (refl, (refl, (refl, tt)))) s.segments.items,
       (
         refl,
-        (list_no_float outbox_data (λ o. record_no_float (outbox_members o) (refl, (refl, (refl, (refl, (refl, tt)))))) n.outbox.items, tt),
+        (list_no_float outbox_data (λ o. record_no_float (outbox_members o) (refl, (refl, (refl, (refl, (refl, tt)))))) s.outbox.items, tt),
       ),
     ) links in
-    members_no_float (done_members n) (with_members (with_members (with_members no_members (name_members n)) (link_members n)) (held_members n))
-    (record_no_float (asks_members n.asks) (refl, (refl, (refl, (refl, tt)))), (record_no_float (handovers_members n.handovers) (refl, (refl, (refl, tt))), (refl, tt))) held
+    members_no_float (done_members s) (with_members (with_members (with_members no_members (name_members n)) (link_members s)) (held_members s))
+    (record_no_float (asks_members s.counts.asks) (refl, (refl, (refl, (refl, tt)))), (record_no_float (handovers_members s.counts.handovers) (refl, (refl, (refl, tt))), (refl, tt))) held
 
 ends_no_float : (c : EndCounts) → has_float (ends_data c) ≡ false
 ends_no_float c = record_no_float (ends_members c) (refl, (refl, (refl, (refl, (refl, (refl, (refl, (refl, (refl, (refl, tt))))))))))
@@ -68,8 +69,11 @@ ring_no_float r =
       (
         refl,
         (
-          record_no_float (callers_members r.callers) (refl, (refl, tt)),
-          (refl, (ends_no_float r.ends, (sessions_no_float r.sessions, (refl, (list_no_float node_data node_no_float r.nodes.items, tt))))),
+          refl,
+          (
+            record_no_float (callers_members r.callers) (refl, (refl, tt)),
+            (refl, (ends_no_float r.ends, (sessions_no_float r.sessions, (refl, (list_no_float node_data node_no_float r.nodes.items, tt))))),
+          ),
         ),
       ),
     )

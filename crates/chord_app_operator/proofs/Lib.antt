@@ -1,3 +1,4 @@
+pub mod Circles
 pub mod Digits
 pub mod JsonLaws
 pub mod Lines

@@ -1,5 +1,7 @@
 -- Lines one after another.
-use Rattle.std.proofs.Common.{◌≡◌, ℕ, ◌<◌, ◌+◌, List, [], ◌∷◌, ◌++◌, length, drop, get_or, sym, ap, ◌∙◌, append_assoc, arith}
+use Rattle.std.proofs.Common.{◌≡◌, ℕ, ◌<◌, ◌+◌, List, [], ◌∷◌, ◌++◌, length, drop, get_or, Result, Ok, Err, OnOk, sym, ap, ◌∙◌, append_assoc, arith}
+use Rattle.std.specs.Prelude.{⊤}
+use Rattle.std.specs.declared.alloc.AllocError.{AllocError}
 use Rattle.std.proofs.lemmas.Grind.{common_steps}
 use Rattle.std.specs.List.{flat_map}
 
@@ -17,3 +19,11 @@ one_more_line line xs place x old new all within is added so_far =
 -- three texts one after another
 pub three_texts : (a b c t0 t1 t2 t3 : List ℕ) → t0 ≡ [] → t1 ≡ t0 ++ a → t2 ≡ t1 ++ b → t3 ≡ t2 ++ c → t3 ≡ a ++ (b ++ c)
 three_texts a b c t0 t1 t2 t3 e0 e1 e2 e3 = e3 ∙ (ap (λ t. t ++ c) (e2 ∙ ap (λ t. t ++ b) (e1 ∙ ap (λ t. t ++ a) e0)) ∙ append_assoc a b c)
+
+-- a text after nothing, and one behind another
+pub from_nothing : (a t0 t1 : List ℕ) → t0 ≡ [] → t1 ≡ t0 ++ a → t1 ≡ a
+from_nothing a t0 t1 e0 e1 = e1 ∙ ap (λ t. t ++ a) e0
+
+pub two_behind : (a b : List ℕ) (outcome : Result ⊤ AllocError) (t0 t1 t2 : List ℕ) → t1 ≡ t0 ++ a → OnOk outcome (t2 ≡ t1 ++ b) → OnOk outcome (t2 ≡ t0 ++ (a ++ b))
+two_behind a b (Ok done) t0 t1 t2 e1 e2 = e2 ∙ (ap (λ t. t ++ b) e1 ∙ append_assoc t0 a b)
+two_behind a b (Err refused) t0 t1 t2 e1 e2 = e2

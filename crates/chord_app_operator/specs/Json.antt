@@ -1,29 +1,27 @@
 -- What is answered, as JSON (RFC 8259). Source: our own.
 use Rattle.std.specs.Prelude.{ℕ, List, [], ◌∷◌, ◌++◌, map, fold, codes, Option, Some, None}
-use Rattle.std.specs.List.{flat_map}
 use Rattle.std.specs.Borrow.{Bor}
 use Rattle.std.specs.Int.{to_be_bytes, w128}
 use Rattle.hex.specs.Hex.{encode_lower}
-use Rattle.serde_json.specs.Data.{Data, null, number, unsigned, string, array, object, Members, no_members, put}
+use Rattle.serde_json.specs.Data.{Data, null, boolean, number, unsigned, string, array, object, Members, no_members, put}
 use Rattle.serde_json.specs.View.{items_of}
-use Rattle.serde_json.specs.Written.{compact_text}
 use Rattle.chord_ident.specs.declared.id.Id.{Id}
 use Rattle.chord_ident.specs.declared.span.Span.{Span}
-use Rattle.chord_app_operator.specs.declared.sight.parts.SegmentSight.{SegmentSight}
-use Rattle.chord_app_operator.specs.declared.sight.parts.OutboxSight.{OutboxSight}
-use Rattle.chord_app_operator.specs.declared.sight.counts.AskCounts.{AskCounts}
-use Rattle.chord_app_operator.specs.declared.sight.counts.HandoverCounts.{HandoverCounts}
+use Rattle.chord_sight.specs.declared.parts.SegmentSight.{SegmentSight}
+use Rattle.chord_sight.specs.declared.parts.OutboxSight.{OutboxSight}
+use Rattle.chord_sight.specs.declared.counts.AskCounts.{AskCounts}
+use Rattle.chord_sight.specs.declared.counts.HandoverCounts.{HandoverCounts}
 use Rattle.chord_app_operator.specs.declared.sight.counts.CallerCounts.{CallerCounts}
-use Rattle.chord_app_operator.specs.declared.sight.node.NodeSight.{NodeSight}
+use Rattle.chord_app_operator.specs.declared.sight.node.StoredNode.{StoredNode}
+use Rattle.chord_sight.specs.declared.node.NodeSight.{NodeSight}
 use Rattle.chord_app_operator.specs.declared.sight.ring.RingSight.{RingSight}
 use Rattle.chord_app_operator.specs.declared.sight.traffic.EndCounts.{EndCounts}
 use Rattle.chord_app_operator.specs.declared.sight.traffic.SessionCounts.{SessionCounts}
 use Rattle.chord_app_operator.specs.declared.operator.holder.Holder.{Holder}
 use Rattle.chord_app_operator.specs.declared.operator.holder.Holder.TheVariants.{Node, Handover, Moved}
-use Rattle.chord_app_operator.specs.declared.operator.pairs.Pair.{Pair}
 use Rattle.chord_app_operator.specs.declared.request.refusal.Refusal.{Refusal}
 use Rattle.chord_app_operator.specs.Words.{store_word, refusal_name}
-use Rattle.chord_app_operator.specs.Sights.{phase_word}
+use Rattle.chord_sight.specs.Phases.{phase_word}
 
 -- with these members, in any order
 abbrev pub with_members : Members → List (List ℕ × Data) → Members
@@ -124,9 +122,9 @@ abbrev pub callers_data : CallerCounts → Data
 callers_data c = record_of (callers_members c)
 
 -- which node it is, its links, what it holds, and what it did
-abbrev pub name_members : NodeSight → List (List ℕ × Data)
+abbrev pub name_members : StoredNode → List (List ℕ × Data)
 name_members n =
-    (codes "node", count_data n.node) ∷ (codes "id", id_data n.id) ∷ (codes "phase", string (phase_word n.phase))
+    (codes "node", count_data n.sight.number) ∷ (codes "id", id_data n.sight.id) ∷ (codes "phase", string (phase_word n.sight.phase))
     ∷ (codes "store", string (store_word n.store)) ∷ []
 
 abbrev pub link_members : NodeSight → List (List ℕ × Data)
@@ -140,18 +138,20 @@ held_members n =
     ∷ (codes "outbox", list_data outbox_data n.outbox.items) ∷ []
 
 abbrev pub done_members : NodeSight → List (List ℕ × Data)
-done_members n = (codes "asks", asks_data n.asks) ∷ (codes "handovers", handovers_data n.handovers) ∷ (codes "ticks", count_data n.ticks) ∷ []
+done_members n =
+    (codes "asks", asks_data n.counts.asks) ∷ (codes "handovers", handovers_data n.counts.handovers)
+    ∷ (codes "ticks", count_data n.counts.ticks) ∷ []
 
 -- a node
-abbrev pub node_data : NodeSight → Data
+abbrev pub node_data : StoredNode → Data
 node_data n =
-    object (with_members (with_members (with_members (with_members no_members (name_members n)) (link_members n)) (held_members n)) (done_members n))
+    object (with_members (with_members (with_members (with_members no_members (name_members n)) (link_members n.sight)) (held_members n.sight)) (done_members n.sight))
 
 -- a ring: what it has beside its nodes, and its nodes
 abbrev pub server_members : RingSight → List (List ℕ × Data)
 server_members r =
-    (codes "successors", count_data r.successors) ∷ (codes "slots", count_data r.slots) ∷ (codes "callers", callers_data r.callers)
-    ∷ (codes "connections", count_data r.connections) ∷ (codes "ends", ends_data r.ends) ∷ (codes "sessions", sessions_data r.sessions)
+    (codes "successors", count_data r.successors) ∷ (codes "slots", count_data r.slots) ∷ (codes "premise", boolean r.premise)
+    ∷ (codes "callers", callers_data r.callers) ∷ (codes "connections", count_data r.connections) ∷ (codes "ends", ends_data r.ends) ∷ (codes "sessions", sessions_data r.sessions)
     ∷ (codes "uptime_ms", count_data r.uptime_ms) ∷ []
 
 abbrev pub ring_members : RingSight → List (List ℕ × Data)
@@ -166,20 +166,6 @@ holder_data id (Node node) = record_of ((codes "id", id_data id) ∷ (codes "nod
 holder_data id (Handover from to handover) = record_of (
     (codes "id", id_data id) ∷ (codes "from", count_data from) ∷ (codes "to", count_data to) ∷ (codes "handover", count_data handover) ∷ [])
 holder_data id Moved = null
-
--- a pair, its key and its value by their bytes
-abbrev pub pair_members : Pair → List (List ℕ × Data)
-pair_members p = (codes "id", id_data p.id) ∷ (codes "key", string (encode_lower p.key.items)) ∷ (codes "value", string (encode_lower p.value.items)) ∷ []
-
-abbrev pub pair_data : Pair → Data
-pair_data p = record_of (pair_members p)
-
--- a line for each pair
-abbrev pub pair_line : Pair → List ℕ
-pair_line p = compact_text (pair_data p) ++ 10 ∷ []
-
-abbrev pub pair_lines : List Pair → List ℕ
-pair_lines pairs = flat_map pair_line pairs
 
 -- a node's number
 abbrev pub node_named : ℕ → Data

@@ -1,6 +1,7 @@
 pub mod Bodies
 pub mod Conversations
 pub mod Json
+pub mod Lines
 pub mod Metrics
 pub mod Outcomes
 pub mod Paths
@@ -9,6 +10,6 @@ pub mod Questions
 pub mod Replies
 pub mod Requests
 pub mod Services
-pub mod Sights
+pub mod Shares
 pub mod Sites
 pub mod Words

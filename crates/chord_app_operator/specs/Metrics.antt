@@ -1,174 +1,168 @@
--- A ring in Prometheus's text format 0.0.4. Source: our own names; the format is that of
--- Prometheus's documentation.
-use Rattle.std.specs.Prelude.{ℕ, List, [], ◌∷◌, ◌++◌, length, codes, decimal, Bool, ◌==◌}
+-- The table of metrics, and a ring as its text in Prometheus's text format 0.0.4. Source: our own
+-- names; the format is that of Prometheus's documentation.
+use Rattle.std.specs.Prelude.{ℕ, List, [], ◌∷◌, ◌++◌, length, map, codes, decimal, Bool, if◌then◌else◌, ◌==◌}
 use Rattle.std.specs.List.{flat_map, count_by}
-use Rattle.chord_app_operator.specs.declared.sight.phase.Phase.{Phase}
-use Rattle.chord_app_operator.specs.declared.sight.phase.Phase.TheVariants.{Staying, Leaving, Gone, Crashed}
-use Rattle.chord_app_operator.specs.declared.sight.node.NodeSight.{NodeSight}
+use Rattle.chord_sight.specs.declared.phase.Phase.{Phase}
+use Rattle.chord_sight.specs.declared.phase.Phase.TheVariants.{Staying, Leaving, Gone, Crashed}
+use Rattle.chord_app_operator.specs.declared.sight.node.StoredNode.{StoredNode}
+use Rattle.chord_sight.specs.declared.node.NodeSight.{NodeSight}
 use Rattle.chord_app_operator.specs.declared.sight.ring.RingSight.{RingSight}
-use Rattle.chord_app_operator.specs.declared.show.measure.Measure.{Measure}
-use Rattle.chord_app_operator.specs.declared.show.measure.Measure.TheVariants.{Pairs, Segments, OutboxItems, Told, Forwarded, Dropped, Full, Given, Taken, Declined, Ticks}
-use Rattle.chord_app_operator.specs.declared.show.total.Total.{Total}
-use Rattle.chord_app_operator.specs.declared.show.total.Total.TheVariants as totals
-use Rattle.chord_app_operator.specs.declared.show.metrics_heads.TheConstants.{NODES_HEAD, PAIRS_HEAD, SEGMENTS_HEAD, OUTBOX_HEAD, ASKS_HEAD, HANDOVERS_HEAD, TICKS_HEAD, CONNECTIONS_HEAD, ENDS_HEAD, KEPT_HEAD, SESSIONS_HEAD, CALLERS_HEAD}
-use Rattle.chord_app_operator.specs.Sights.{phase_word}
+use Rattle.chord_app_operator.specs.declared.show.node_count.NodeCount.{NodeCount}
+use Rattle.chord_app_operator.specs.declared.show.node_count.NodeCount.TheVariants as node
+use Rattle.chord_app_operator.specs.declared.show.ring_count.RingCount.{RingCount}
+use Rattle.chord_app_operator.specs.declared.show.ring_count.RingCount.TheVariants as ring
+use Rattle.chord_app_operator.specs.declared.show.metric.Metric.{Metric}
+use Rattle.chord_app_operator.specs.declared.show.metric.Series.{Series}
+use Rattle.chord_app_operator.specs.declared.show.metric.Series.TheVariants.{Node, Ring}
 
--- what is measured of a node
-abbrev pub measured : Measure → NodeSight → ℕ
-measured Pairs n = n.pairs
-measured Segments n = length n.segments.items
-measured OutboxItems n = length n.outbox.items
-measured Told n = n.asks.told
-measured Forwarded n = n.asks.forwarded
-measured Dropped n = n.asks.dropped
-measured Full n = n.asks.full
-measured Given n = n.handovers.given
-measured Taken n = n.handovers.taken
-measured Declined n = n.handovers.declined
-measured Ticks n = n.ticks
+-- ---- the numbers
 
--- what a line of a measure's metric has before the node's number, and behind it
-pub record NodeLabel : Type 0 where
-  pub before : List ℕ
-  pub behind : List ℕ
+-- of a node
+abbrev pub node_count : NodeCount → NodeSight → ℕ
+node_count node.Pairs n = n.pairs
+node_count node.Segments n = length n.segments.items
+node_count node.OutboxItems n = length n.outbox.items
+node_count node.Told n = n.counts.asks.told
+node_count node.Forwarded n = n.counts.asks.forwarded
+node_count node.Dropped n = n.counts.asks.dropped
+node_count node.Full n = n.counts.asks.full
+node_count node.Given n = n.counts.handovers.given
+node_count node.Taken n = n.counts.handovers.taken
+node_count node.Declined n = n.counts.handovers.declined
+node_count node.Ticks n = n.counts.ticks
 
-abbrev pub label_of : Measure → NodeLabel
-label_of Pairs = record { before = codes "chord_pairs{node=\""; behind = codes "\"} " }
-label_of Segments = record { before = codes "chord_segments{node=\""; behind = codes "\"} " }
-label_of OutboxItems = record { before = codes "chord_outbox_items{node=\""; behind = codes "\"} " }
-label_of Told = record { before = codes "chord_asks_total{node=\""; behind = codes "\",answer=\"told\"} " }
-label_of Forwarded = record { before = codes "chord_asks_total{node=\""; behind = codes "\",answer=\"forwarded\"} " }
-label_of Dropped = record { before = codes "chord_asks_total{node=\""; behind = codes "\",answer=\"dropped\"} " }
-label_of Full = record { before = codes "chord_asks_total{node=\""; behind = codes "\",answer=\"full\"} " }
-label_of Given = record { before = codes "chord_handovers_total{node=\""; behind = codes "\",kind=\"given\"} " }
-label_of Taken = record { before = codes "chord_handovers_total{node=\""; behind = codes "\",kind=\"taken\"} " }
-label_of Declined = record { before = codes "chord_handovers_total{node=\""; behind = codes "\",kind=\"declined\"} " }
-label_of Ticks = record { before = codes "chord_ticks_total{node=\""; behind = codes "\"} " }
-
-abbrev pub before_node : Measure → List ℕ
-before_node m = (label_of m).before
-
-abbrev pub after_node : Measure → List ℕ
-after_node m = (label_of m).behind
-
--- a number and the end of its line
-abbrev pub value_line : ℕ → List ℕ
-value_line n = decimal n ++ 10 ∷ []
-
--- the line of a node, and those of all nodes
-abbrev pub node_line : Measure → NodeSight → List ℕ
-node_line m n = before_node m ++ (decimal n.node ++ (after_node m ++ value_line (measured m n)))
-
-abbrev pub node_lines : Measure → List NodeSight → List ℕ
-node_lines m nodes = flat_map (node_line m) nodes
-
--- the number of a phase
+-- whether a node is in a phase
 abbrev pub phase_number : Phase → ℕ
 phase_number Staying = 0
 phase_number Leaving = 1
 phase_number Gone = 2
 phase_number Crashed = 3
 
--- whether a node is in a phase
-abbrev pub is_in : Phase → NodeSight → Bool
-is_in phase n = phase_number n.phase == phase_number phase
+abbrev pub is_in : Phase → StoredNode → Bool
+is_in phase n = phase_number n.sight.phase == phase_number phase
 
--- how many nodes are in a phase
-abbrev pub phase_line : Phase → List NodeSight → List ℕ
-phase_line phase nodes = codes "chord_nodes{phase=\"" ++ (phase_word phase ++ (codes "\"} " ++ value_line (count_by (is_in phase) nodes)))
+-- of a ring and its server
+abbrev pub ring_count : RingCount → RingSight → ℕ
+ring_count (ring.Nodes phase) r = count_by (is_in phase) r.nodes.items
+ring_count ring.Premise r = if r.premise then 1 else 0
+ring_count ring.Connections r = r.connections
+ring_count ring.CallersOpen r = r.callers.open
+ring_count ring.Ended r = r.ends.ended
+ring_count ring.Truncated r = r.ends.truncated
+ring_count ring.Malformed r = r.ends.malformed
+ring_count ring.Protocol r = r.ends.protocol
+ring_count ring.Read r = r.ends.read
+ring_count ring.Write r = r.ends.write
+ring_count ring.TurnsSpent r = r.ends.turns_spent
+ring_count ring.Memory r = r.ends.memory
+ring_count ring.CallersSpent r = r.ends.callers_spent
+ring_count ring.Idle r = r.ends.idle
+ring_count ring.Kept r = r.sessions.kept
+ring_count ring.Resumed r = r.sessions.resumed
+ring_count ring.Dropped r = r.sessions.dropped
+ring_count ring.Refused r = r.sessions.refused
 
-abbrev pub phase_lines : List NodeSight → List ℕ
-phase_lines nodes = phase_line Staying nodes ++ (phase_line Leaving nodes ++ (phase_line Gone nodes ++ phase_line Crashed nodes))
+-- ---- the table
 
-abbrev pub phase_metrics : List NodeSight → List ℕ
-phase_metrics nodes = NODES_HEAD.now ++ phase_lines nodes
+-- lines with the same labels: one of each node, or one of the ring
+pub data Lines : Type 0 where
+  OfNodes : List ℕ → NodeCount → Lines
+  OfRing : List ℕ → RingCount → Lines
 
--- the metrics of the nodes, each behind its help and its type
-abbrev pub held_metrics : List NodeSight → List ℕ
-held_metrics nodes =
-    PAIRS_HEAD.now ++ (node_lines Pairs nodes ++ (SEGMENTS_HEAD.now ++ (node_lines Segments nodes ++ (OUTBOX_HEAD.now ++ node_lines OutboxItems nodes))))
+-- a metric: its name, what it says, its kind, and its lines
+pub record Row : Type 0 where
+  pub name : List ℕ
+  pub help : List ℕ
+  pub kind : List ℕ
+  pub lines : List Lines
 
-abbrev pub asks_metrics : List NodeSight → List ℕ
-asks_metrics nodes =
-    ASKS_HEAD.now ++ (node_lines Told nodes ++ (node_lines Forwarded nodes ++ (node_lines Dropped nodes ++ node_lines Full nodes)))
+abbrev pub gauge : (name help : List ℕ) → List Lines → Row
+gauge name help lines = record { name = name; help = help; kind = codes "gauge"; lines = lines }
 
-abbrev pub handovers_metrics : List NodeSight → List ℕ
-handovers_metrics nodes =
-    HANDOVERS_HEAD.now ++ (node_lines Given nodes ++ (node_lines Taken nodes ++ node_lines Declined nodes))
+abbrev pub counter : (name help : List ℕ) → List Lines → Row
+counter name help lines = record { name = name; help = help; kind = codes "counter"; lines = lines }
 
-abbrev pub ticks_metrics : List NodeSight → List ℕ
-ticks_metrics nodes = TICKS_HEAD.now ++ node_lines Ticks nodes
+abbrev pub metrics : List Row
+metrics =
+    gauge (codes "chord_nodes") (codes "Nodes by phase.") (
+    OfRing (codes "{phase=\"staying\"}") (ring.Nodes Staying) ∷
+    OfRing (codes "{phase=\"leaving\"}") (ring.Nodes Leaving) ∷
+    OfRing (codes "{phase=\"gone\"}") (ring.Nodes Gone) ∷
+    OfRing (codes "{phase=\"crashed\"}") (ring.Nodes Crashed) ∷ [])
+    ∷ gauge (codes "chord_ring_premise") (codes "1 as long as the ring allowed each crash.") (OfRing (codes "") ring.Premise ∷ [])
+    ∷ gauge (codes "chord_pairs") (codes "Pairs that a node holds.") (OfNodes (codes "") node.Pairs ∷ [])
+    ∷ gauge (codes "chord_segments") (codes "Segments that a node holds.") (OfNodes (codes "") node.Segments ∷ [])
+    ∷ gauge (codes "chord_outbox_items") (codes "Handovers that a node gives and that are not taken yet.") (OfNodes (codes "") node.OutboxItems ∷ [])
+    ∷ counter (codes "chord_asks_total") (codes "Requests that a node got, by what it did.") (
+    OfNodes (codes ",answer=\"told\"") node.Told ∷
+    OfNodes (codes ",answer=\"forwarded\"") node.Forwarded ∷
+    OfNodes (codes ",answer=\"dropped\"") node.Dropped ∷
+    OfNodes (codes ",answer=\"full\"") node.Full ∷ [])
+    ∷ counter (codes "chord_handovers_total") (codes "Handovers that a node took part in.") (
+    OfNodes (codes ",kind=\"given\"") node.Given ∷
+    OfNodes (codes ",kind=\"taken\"") node.Taken ∷
+    OfNodes (codes ",kind=\"declined\"") node.Declined ∷ [])
+    ∷ counter (codes "chord_ticks_total") (codes "Rounds of upkeep that a node had.") (OfNodes (codes "") node.Ticks ∷ [])
+    ∷ gauge (codes "chord_connections") (codes "Clients that are connected.") (OfRing (codes "") ring.Connections ∷ [])
+    ∷ gauge (codes "chord_callers_open") (codes "Callers that are open.") (OfRing (codes "") ring.CallersOpen ∷ [])
+    ∷ counter (codes "chord_connections_total") (codes "Connections that ended, by how.") (
+    OfRing (codes "{result=\"ended\"}") ring.Ended ∷
+    OfRing (codes "{result=\"truncated\"}") ring.Truncated ∷
+    OfRing (codes "{result=\"malformed\"}") ring.Malformed ∷
+    OfRing (codes "{result=\"protocol\"}") ring.Protocol ∷
+    OfRing (codes "{result=\"read\"}") ring.Read ∷
+    OfRing (codes "{result=\"write\"}") ring.Write ∷
+    OfRing (codes "{result=\"turnsspent\"}") ring.TurnsSpent ∷
+    OfRing (codes "{result=\"memory\"}") ring.Memory ∷
+    OfRing (codes "{result=\"callersspent\"}") ring.CallersSpent ∷
+    OfRing (codes "{result=\"idle\"}") ring.Idle ∷ [])
+    ∷ gauge (codes "chord_sessions_kept") (codes "Sessions without a connection.") (OfRing (codes "") ring.Kept ∷ [])
+    ∷ counter (codes "chord_sessions_total") (codes "Sessions that were resumed, dropped or refused.") (
+    OfRing (codes "{kind=\"resumed\"}") ring.Resumed ∷
+    OfRing (codes "{kind=\"dropped\"}") ring.Dropped ∷
+    OfRing (codes "{kind=\"refused\"}") ring.Refused ∷ [])
+    ∷ []
 
-abbrev pub node_metrics : List NodeSight → List ℕ
-node_metrics nodes = held_metrics nodes ++ (asks_metrics nodes ++ (handovers_metrics nodes ++ ticks_metrics nodes))
+-- ---- the text
 
--- what is counted of a server
-abbrev pub counted : Total → RingSight → ℕ
-counted totals.Ended r = r.ends.ended
-counted totals.Truncated r = r.ends.truncated
-counted totals.Malformed r = r.ends.malformed
-counted totals.Protocol r = r.ends.protocol
-counted totals.Read r = r.ends.read
-counted totals.Write r = r.ends.write
-counted totals.TurnsSpent r = r.ends.turns_spent
-counted totals.Memory r = r.ends.memory
-counted totals.CallersSpent r = r.ends.callers_spent
-counted totals.Idle r = r.ends.idle
-counted totals.Kept r = r.sessions.kept
-counted totals.Resumed r = r.sessions.resumed
-counted totals.Dropped r = r.sessions.dropped
-counted totals.Refused r = r.sessions.refused
+-- a number and the end of its line
+abbrev pub value_line : ℕ → List ℕ
+value_line n = codes " " ++ (decimal n ++ codes "\n")
 
--- the line of a count up to its number
-abbrev pub before_count : Total → List ℕ
-before_count totals.Ended = codes "chord_connections_total{result=\"ended\"} "
-before_count totals.Truncated = codes "chord_connections_total{result=\"truncated\"} "
-before_count totals.Malformed = codes "chord_connections_total{result=\"malformed\"} "
-before_count totals.Protocol = codes "chord_connections_total{result=\"protocol\"} "
-before_count totals.Read = codes "chord_connections_total{result=\"read\"} "
-before_count totals.Write = codes "chord_connections_total{result=\"write\"} "
-before_count totals.TurnsSpent = codes "chord_connections_total{result=\"turnsspent\"} "
-before_count totals.Memory = codes "chord_connections_total{result=\"memory\"} "
-before_count totals.CallersSpent = codes "chord_connections_total{result=\"callersspent\"} "
-before_count totals.Idle = codes "chord_connections_total{result=\"idle\"} "
-before_count totals.Kept = codes "chord_sessions_kept "
-before_count totals.Resumed = codes "chord_sessions_total{kind=\"resumed\"} "
-before_count totals.Dropped = codes "chord_sessions_total{kind=\"dropped\"} "
-before_count totals.Refused = codes "chord_sessions_total{kind=\"refused\"} "
+abbrev pub node_line : (name labels : List ℕ) → NodeCount → StoredNode → List ℕ
+node_line name labels count n =
+    name ++ (codes "{node=\"" ++ (decimal n.sight.number ++ (codes "\"" ++ (labels ++ (codes "}" ++ value_line (node_count count n.sight))))))
 
--- the line of a count
-abbrev pub total_line : Total → RingSight → List ℕ
-total_line total r = before_count total ++ value_line (counted total r)
+abbrev pub ring_line : (name labels : List ℕ) → ℕ → List ℕ
+ring_line name labels value = name ++ (labels ++ value_line value)
 
--- how many connections ended, by how: with what the client sent, at a device, or by the server
-abbrev pub ends_by_client : RingSight → List ℕ
-ends_by_client r = total_line totals.Ended r ++ (total_line totals.Truncated r ++ (total_line totals.Malformed r ++ (total_line totals.Protocol r)))
+abbrev pub series_lines : List ℕ → RingSight → Lines → List ℕ
+series_lines name r (OfNodes labels count) = flat_map (node_line name labels count) r.nodes.items
+series_lines name r (OfRing labels count) = ring_line name labels (ring_count count r)
 
-abbrev pub ends_by_device : RingSight → List ℕ
-ends_by_device r = total_line totals.Read r ++ (total_line totals.Write r ++ (total_line totals.TurnsSpent r))
+-- what a metric says, and its kind
+abbrev pub comment_line : (word name said : List ℕ) → List ℕ
+comment_line word name said = word ++ (name ++ (codes " " ++ (said ++ codes "\n")))
 
-abbrev pub ends_by_server : RingSight → List ℕ
-ends_by_server r = total_line totals.Memory r ++ (total_line totals.CallersSpent r ++ (total_line totals.Idle r))
+abbrev pub head_text : (name help kind : List ℕ) → List ℕ → List ℕ
+head_text name help kind lines =
+    comment_line (codes "# HELP ") name help ++ (comment_line (codes "# TYPE ") name kind ++ lines)
 
-abbrev pub end_metrics : RingSight → List ℕ
-end_metrics r = ENDS_HEAD.now ++ (ends_by_client r ++ (ends_by_device r ++ ends_by_server r))
+abbrev pub row_text : RingSight → Row → List ℕ
+row_text r row = head_text row.name row.help row.kind (flat_map (series_lines row.name r) row.lines)
 
--- how many sessions are kept, and went on, were dropped or were refused
-abbrev pub session_metrics : RingSight → List ℕ
-session_metrics r =
-    KEPT_HEAD.now ++ (total_line totals.Kept r ++ (SESSIONS_HEAD.now
-    ++ (total_line totals.Resumed r ++ (total_line totals.Dropped r ++ total_line totals.Refused r))))
-
--- how many connections and callers are open
-abbrev pub open_metrics : RingSight → List ℕ
-open_metrics r =
-    CONNECTIONS_HEAD.now ++ (codes "chord_connections " ++ (value_line r.connections ++ (CALLERS_HEAD.now ++ (codes "chord_callers_open " ++ value_line r.callers.open))))
-
--- those of the ring
-abbrev pub ring_metrics : RingSight → List ℕ
-ring_metrics r = open_metrics r ++ (end_metrics r ++ session_metrics r)
-
--- all metrics
+-- the text of a ring
 abbrev pub metrics_text : RingSight → List ℕ
-metrics_text r =
-    phase_metrics r.nodes.items ++ (node_metrics r.nodes.items ++ ring_metrics r)
+metrics_text r = flat_map (row_text r) metrics
+
+-- ---- the program's table
+
+abbrev pub lines_look : Series → Lines
+lines_look (Node labels count) = OfNodes labels.now count
+lines_look (Ring labels count) = OfRing labels.now count
+
+abbrev pub lines_of : List ℕ → RingSight → Series → List ℕ
+lines_of name r series = series_lines name r (lines_look series)
+
+abbrev pub text_of : RingSight → Metric → List ℕ
+text_of r m = head_text m.name.now m.help.now m.kind.now (flat_map (lines_of m.name.now r) m.series.now)

@@ -6,12 +6,16 @@ use Rattle.http1.specs.Fields.{Header}
 use Rattle.http_server.specs.declared.response.Response.{Response}
 use Rattle.http_server.specs.Response.{IsResponse}
 use Rattle.chord_ident.specs.declared.id.Id.{Id}
+use Rattle.chord_app_operator.specs.declared.request.format.Format.{Format}
+use Rattle.chord_app_operator.specs.declared.request.format.Format.TheVariants.{Json, Text}
 use Rattle.chord_app_operator.specs.declared.request.refusal.Refusal.{Refusal}
-use Rattle.chord_app_operator.specs.declared.request.refusal.Refusal.TheVariants.{ForeignHost, ForeignOrigin, NoSuchPath, WrongMethod, BodyTooLong, Bad, Join, Leave, Crash, Memory}
+use Rattle.chord_app_operator.specs.declared.request.refusal.Refusal.TheVariants.{WrongMethod}
 use Rattle.chord_app_operator.specs.declared.operator.pairs.PairsPage.{PairsPage}
+use Rattle.chord_app_operator.specs.declared.sight.ring.RingSight.{RingSight}
 use Rattle.chord_app_operator.specs.declared.show.front_page.TheConstants.{FRONT_PAGE, PAGE_POLICY}
-use Rattle.chord_app_operator.specs.Words.{allowed_text, refusal_status}
-use Rattle.chord_app_operator.specs.Json.{id_hex, pair_lines, refused}
+use Rattle.chord_app_operator.specs.Words.{allowed_text, refusal_status, state_word}
+use Rattle.chord_app_operator.specs.Json.{id_hex, node_named, refused, ring_data}
+use Rattle.chord_app_operator.specs.Lines.{node_deed, pair_lines, refusal_line, ring_table}
 
 -- the fields of an answer of this type, which no one may keep
 abbrev pub typed : List ℕ → List Header
@@ -23,9 +27,6 @@ html_type = codes "text/html; charset=utf-8"
 
 abbrev pub json_type : List ℕ
 json_type = codes "application/json"
-
-abbrev pub lines_type : List ℕ
-lines_type = codes "application/x-ndjson"
 
 abbrev pub text_type : List ℕ
 text_type = codes "text/plain; charset=utf-8"
@@ -46,30 +47,45 @@ abbrev pub IsHealth : Bool → Response → Type 0
 IsHealth healthy response =
     IsResponse (if healthy then 200 else 503) (typed text_type) (if healthy then codes "ok\n" else codes "no node is staying\n") response
 
+-- the type of an answer in a form, and its body: of a value in JSON, or of lines
+abbrev pub type_in : Format → List ℕ
+type_in Json = json_type
+type_in Text = text_type
+
+abbrev pub body_in : Format → Data → List ℕ → List ℕ
+body_in Json value lines = compact_text value
+body_in Text value lines = lines
+
+-- the ring
+abbrev pub IsRing : Format → RingSight → Response → Type 0
+IsRing format sight response = IsResponse 200 (typed (type_in format)) (body_in format (ring_data sight) (ring_table sight)) response
+
+-- what was done to a node
+abbrev pub IsNode : Format → (code node : ℕ) → (deed : List ℕ) → Response → Type 0
+IsNode format code node deed response =
+    IsResponse code (typed (type_in format)) (body_in format (node_named node) (node_deed node deed)) response
+
 -- the fields of a refusal: for a wrong method also those that are right
-abbrev pub refusal_fields : Refusal → List Header
-refusal_fields (WrongMethod verb) = typed json_type ++ (codes "allow", allowed_text verb) ∷ []
-refusal_fields ForeignHost = typed json_type
-refusal_fields ForeignOrigin = typed json_type
-refusal_fields NoSuchPath = typed json_type
-refusal_fields BodyTooLong = typed json_type
-refusal_fields (Bad fault) = typed json_type
-refusal_fields (Join refusal) = typed json_type
-refusal_fields (Leave refusal) = typed json_type
-refusal_fields (Crash refusal) = typed json_type
-refusal_fields Memory = typed json_type
+abbrev pub refusal_fields : Format → Refusal → List Header
+refusal_fields format (WrongMethod verb) = typed (type_in format) ++ (codes "allow", allowed_text verb) ∷ []
+refusal_fields format refusal = typed (type_in format)
 
 -- a refusal, by its name
-abbrev pub IsRefused : Refusal → Response → Type 0
-IsRefused refusal response = IsResponse (refusal_status refusal) (refusal_fields refusal) (compact_text (refused refusal)) response
+abbrev pub IsRefused : Format → Refusal → Response → Type 0
+IsRefused format refusal response =
+    IsResponse (refusal_status refusal) (refusal_fields format refusal) (body_in format (refused refusal) (refusal_line refusal)) response
 
--- where there are more pairs, the field `chord-next` names the identifier to go on from
-abbrev pub pairs_fields : Option Id → List Header
-pairs_fields None = typed lines_type
-pairs_fields (Some next) = typed lines_type ++ (codes "chord-next", id_hex next) ∷ []
+-- the field `chord-page` says who holds the identifier that a page begins with, and where there are
+-- more pairs, the field `chord-next` names the one to go on from
+abbrev pub next_fields : Option Id → List Header
+next_fields None = []
+next_fields (Some next) = (codes "chord-next", id_hex next) ∷ []
+
+abbrev pub pairs_fields : PairsPage → List Header
+pairs_fields page = typed text_type ++ ((codes "chord-page", state_word page.state) ∷ next_fields page.next)
 
 abbrev pub IsPairs : PairsPage → Response → Type 0
-IsPairs page response = IsResponse 200 (pairs_fields page.next) (pair_lines page.pairs.items) response
+IsPairs page response = IsResponse 200 (pairs_fields page) (pair_lines page.pairs.items) response
 
 -- memory ran out: a response without a body
 abbrev pub IsFull : Response → Type 0

@@ -1,10 +1,13 @@
 -- The call that a request makes, or why it is refused. Source: our own.
-use Rattle.std.specs.Prelude.{◌≡◌, ◌⊎◌, ℕ, List, length, not, nat_lt, Option, Some, None, Result, Ok, Err, if◌then◌else◌}
+use Rattle.std.specs.Prelude.{◌≡◌, ◌⊎◌, ℕ, List, length, not, nat_lt, codes, bytes_eq, Option, Some, None, option_map, Result, Ok, Err, if◌then◌else◌}
+use Rattle.http_header.specs.HeaderMap.{get}
 use Rattle.http_uri.specs.Uri.{uri_path, uri_query}
 use Rattle.http.specs.declared.request.Parts.{Parts}
 use Rattle.chord_app_operator.specs.declared.request.calls.OperatorCall.{OperatorCall}
 use Rattle.chord_app_operator.specs.declared.request.calls.OperatorCall.TheVariants as Call
 use Rattle.chord_app_operator.specs.declared.request.fault.Fault.{Fault}
+use Rattle.chord_app_operator.specs.declared.request.format.Format.{Format}
+use Rattle.chord_app_operator.specs.declared.request.format.Format.TheVariants.{Json, Text}
 use Rattle.chord_app_operator.specs.declared.request.refusal.Refusal.{Refusal}
 use Rattle.chord_app_operator.specs.declared.request.refusal.Refusal.TheVariants.{ForeignHost, ForeignOrigin, NoSuchPath, WrongMethod, BodyTooLong, Bad, Memory}
 use Rattle.chord_app_operator.specs.declared.request.resource.Resource.{Resource}
@@ -57,6 +60,14 @@ requested port head body =
     else (if not (is_from_own_origin port head) then Err ForeignOrigin
     else call_if_named head body (resource_of (uri_path head.uri)))
 
--- the same, or out of memory
+-- the form in which a request wants its answer: text if its first field `accept` is `text/plain`
+abbrev pub format_named : Option (List ℕ) → Format
+format_named None = Json
+format_named (Some kind) = if bytes_eq kind (codes "text/plain") then Text else Json
+
+abbrev pub format_of : Parts → Format
+format_of head = format_named (option_map (λ v. v.bytes) (get head.headers (codes "accept")))
+
+-- a call, or out of memory
 abbrev pub UnlessMemory : {X : Type 0} → Result X Refusal → Result X Refusal → Type 0
 UnlessMemory result expected = (result ≡ expected) ⊎ (result ≡ Err Memory)

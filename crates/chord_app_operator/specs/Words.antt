@@ -9,6 +9,8 @@ use Rattle.chord_app_operator.specs.declared.request.fault.Fault.{Fault}
 use Rattle.chord_app_operator.specs.declared.request.fault.Fault.TheVariants.{NotJson, NotObject, UnknownMember, BadId, BadStore, BadLimit, BadVia, BadForce, BadAfter, UnknownParameter}
 use Rattle.chord_app_operator.specs.declared.request.refusal.Refusal.{Refusal}
 use Rattle.chord_app_operator.specs.declared.request.refusal.Refusal.TheVariants.{ForeignHost, ForeignOrigin, NoSuchPath, WrongMethod, BodyTooLong, Bad, Join, Leave, Crash, Memory}
+use Rattle.chord_app_operator.specs.declared.operator.pairs.PageState.{PageState}
+use Rattle.chord_app_operator.specs.declared.operator.pairs.PageState.TheVariants.{Held, UnderWay, Lost}
 use Rattle.chord_app_operator.specs.declared.operator.refusals.JoinRefusal.{JoinRefusal}
 use Rattle.chord_app_operator.specs.declared.operator.refusals.JoinRefusal.TheVariants as J
 use Rattle.chord_app_operator.specs.declared.operator.refusals.LeaveRefusal.{LeaveRefusal}
@@ -28,6 +30,19 @@ store_of word =
     if bytes_eq word (codes "tree") then Some Kind.Tree
     else (if bytes_eq word (codes "list") then Some Kind.List
     else (if bytes_eq word (codes "capped") then Some Kind.Capped else None))
+
+-- the word of a page's state
+abbrev pub state_word : PageState → List ℕ
+state_word Held = codes "held"
+state_word UnderWay = codes "underway"
+state_word Lost = codes "lost"
+
+-- the state with this word
+abbrev pub state_of : List ℕ → Option PageState
+state_of word =
+    if bytes_eq word (codes "held") then Some Held
+    else (if bytes_eq word (codes "underway") then Some UnderWay
+    else (if bytes_eq word (codes "lost") then Some Lost else None))
 
 -- the methods by which one looks or acts
 abbrev pub allows : Verb → List ℕ → Bool

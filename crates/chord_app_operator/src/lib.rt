@@ -11,17 +11,16 @@ mod service;
 mod show;
 mod sight;
 
-pub use operator::{CrashRefusal, Holder, JoinRefusal, LeaveRefusal, Operator, Pair, PairsPage};
+pub use operator::{
+    CrashRefusal, Holder, JoinRefusal, LeaveRefusal, Operator, PageState, Pair, PairsPage,
+};
 pub use request::{
-    CrashRequest, Fault, JoinRequest, OperatorCall, PairsRequest, Refusal, Resource, Site,
+    CrashRequest, Fault, Format, JoinRequest, OperatorCall, PairsRequest, Refusal, Resource, Site,
     StoreKind, Verb,
 };
 pub use service::OperatorService;
 pub use show::{
-    Measure, ToJson, Total, array, holder_value, id_text, metrics_text, optional, pair_lines,
-    ring_text,
+    Stretch, ToJson, array, holder_value, hundredths, id_text, metrics_text, optional, pair_lines,
+    ring_table, ring_text,
 };
-pub use sight::{
-    AskCounts, CallerCounts, EndCounts, HandoverCounts, NodeSight, OutboxSight, Phase, RingSight,
-    SegmentSight, SessionCounts,
-};
+pub use sight::{CallerCounts, EndCounts, RingSight, SessionCounts, StoredNode};

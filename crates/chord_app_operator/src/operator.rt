@@ -6,6 +6,6 @@ mod refusals;
 mod trait_operator;
 
 pub use holder::Holder;
-pub use pairs::{Pair, PairsPage};
+pub use pairs::{PageState, Pair, PairsPage};
 pub use refusals::{CrashRefusal, JoinRefusal, LeaveRefusal};
 pub use trait_operator::Operator;

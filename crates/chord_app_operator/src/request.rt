@@ -3,6 +3,7 @@
 mod body;
 mod calls;
 mod fault;
+mod format;
 mod paths;
 mod query;
 mod read;
@@ -14,6 +15,7 @@ mod verb;
 
 pub use calls::{CrashRequest, JoinRequest, OperatorCall, PairsRequest};
 pub use fault::Fault;
+pub use format::Format;
 pub use refusal::Refusal;
 pub use resource::Resource;
 pub use site::Site;

@@ -2,11 +2,14 @@
 ghost use Rattle.std.specs.Prelude.{◌≡◌, IfOk, OnOk};
 ghost use Rattle.http_server.specs.Response.{IsBlank};
 ghost use Rattle.chord_app_operator.specs.declared.request.calls.OperatorCall.TheVariants as Call;
+ghost use Rattle.chord_app_operator.specs.declared.request.format.Format.{Format};
 ghost use Rattle.chord_app_operator.specs.Services.{OrFull, ShowsRing, ShowsMetrics, ShowsPairs, IsAnswered, IsDealtWith, IsServed};
 ghost use Rattle.chord_app_operator.specs.Replies.{IsPage};
 
 use crate::operator::{Operator, PairsPage};
-use crate::request::{CrashRequest, JoinRequest, OperatorCall, PairsRequest, Refusal, Site};
+use crate::request::{
+    CrashRequest, Format, JoinRequest, OperatorCall, PairsRequest, Refusal, Site,
+};
 use crate::show::replies::{
     or_full, refuse, show_health, show_holder, show_metrics, show_node, show_page, show_pairs,
     show_ring, show_stopping,
@@ -63,115 +66,145 @@ fn page(response: &mut Response)
 
 fn show_told_ring(
     alloc: Global,
+    format: Format,
     told: &Result<RingSight, AllocError>,
     response: &mut Response,
 ) -> Result<(), AllocError>
     requires { IsBlank response.old }
-    ensures { OnOk result (ShowsRing told.now response.new) }
+    ensures { OnOk result (ShowsRing format told.now response.new) }
 {
     match told {
-        Ok(sight) => show_ring(alloc, sight, response),
-        Err(_) => refuse(alloc, Refusal::Memory, response),
+        Ok(sight) => show_ring(alloc, format, sight, response),
+        Err(_) => refuse(alloc, format, Refusal::Memory, response),
     }
 }
 
 fn show_told_metrics(
     alloc: Global,
+    format: Format,
     told: &Result<RingSight, AllocError>,
     response: &mut Response,
 ) -> Result<(), AllocError>
     requires { IsBlank response.old }
-    ensures { OnOk result (ShowsMetrics told.now response.new) }
+    ensures { OnOk result (ShowsMetrics format told.now response.new) }
 {
     match told {
         Ok(sight) => show_metrics(alloc, sight, response),
-        Err(_) => refuse(alloc, Refusal::Memory, response),
+        Err(_) => refuse(alloc, format, Refusal::Memory, response),
     }
 }
 
 fn show_told_pairs(
     alloc: Global,
+    format: Format,
     told: &Result<PairsPage, AllocError>,
     response: &mut Response,
 ) -> Result<(), AllocError>
     requires { IsBlank response.old }
-    ensures { OnOk result (ShowsPairs told.now response.new) }
+    ensures { OnOk result (ShowsPairs format told.now response.new) }
 {
     match told {
         Ok(page) => show_pairs(alloc, page, response),
-        Err(_) => refuse(alloc, Refusal::Memory, response),
+        Err(_) => refuse(alloc, format, Refusal::Memory, response),
     }
 }
 
-fn ring<O: Operator>(alloc: Global, operator: &mut O, response: &mut Response)
+fn ring<O: Operator>(alloc: Global, format: Format, operator: &mut O, response: &mut Response)
     requires { IsBlank response.old }
-    ensures { IsAnswered O.answers Call.Ring operator.old response.new operator.new }
+    ensures { IsAnswered O.answers format Call.Ring operator.old response.new operator.new }
 {
     let told = operator.sight(alloc);
-    let shown = show_told_ring(alloc, &told, response);
+    let shown = show_told_ring(alloc, format, &told, response);
     drop(told);
     or_full(shown, response);
 }
 
-fn metrics<O: Operator>(alloc: Global, operator: &mut O, response: &mut Response)
+fn metrics<O: Operator>(alloc: Global, format: Format, operator: &mut O, response: &mut Response)
     requires { IsBlank response.old }
-    ensures { IsAnswered O.answers Call.Metrics operator.old response.new operator.new }
+    ensures { IsAnswered O.answers format Call.Metrics operator.old response.new operator.new }
 {
     let told = operator.sight(alloc);
-    let shown = show_told_metrics(alloc, &told, response);
+    let shown = show_told_metrics(alloc, format, &told, response);
     drop(told);
     or_full(shown, response);
 }
 
 fn health<O: Operator>(operator: &mut O, response: &mut Response)
     requires { IsBlank response.old }
-    ensures { IsAnswered O.answers Call.Health operator.old response.new operator.new }
+    ensures { (format : Format) → IsAnswered O.answers format Call.Health operator.old response.new operator.new }
 {
     let shown = show_health(operator.is_healthy(), response);
     or_full(shown, response);
 }
 
-fn join<O: Operator>(alloc: Global, operator: &mut O, request: JoinRequest, response: &mut Response)
+fn join<O: Operator>(
+    alloc: Global,
+    format: Format,
+    operator: &mut O,
+    request: JoinRequest,
+    response: &mut Response,
+)
     requires { IsBlank response.old }
-    ensures { IsAnswered O.answers (Call.Join request) operator.old response.new operator.new }
+    ensures { IsAnswered O.answers format (Call.Join request) operator.old response.new operator.new }
 {
     let shown = match operator.join(request) {
-        Ok(node) => show_node(alloc, StatusCode::CREATED, node, response),
-        Err(refusal) => refuse(alloc, Refusal::Join(refusal), response),
+        Ok(node) => show_node(alloc, format, StatusCode::CREATED, node, "joined", response),
+        Err(refusal) => refuse(alloc, format, Refusal::Join(refusal), response),
     };
     or_full(shown, response);
 }
 
-fn leave<O: Operator>(alloc: Global, operator: &mut O, node: u64, response: &mut Response)
+fn leave<O: Operator>(
+    alloc: Global,
+    format: Format,
+    operator: &mut O,
+    node: u64,
+    response: &mut Response,
+)
     requires { IsBlank response.old }
-    ensures { IsAnswered O.answers (Call.Leave node) operator.old response.new operator.new }
+    ensures { IsAnswered O.answers format (Call.Leave node) operator.old response.new operator.new }
 {
     let shown = match operator.leave(node) {
-        Ok(()) => show_node(alloc, StatusCode::ACCEPTED, node, response),
-        Err(refusal) => refuse(alloc, Refusal::Leave(refusal), response),
+        Ok(()) => show_node(
+            alloc,
+            format,
+            StatusCode::ACCEPTED,
+            node,
+            "begins to leave",
+            response,
+        ),
+        Err(refusal) => refuse(alloc, format, Refusal::Leave(refusal), response),
     };
     or_full(shown, response);
 }
 
 fn crash<O: Operator>(
     alloc: Global,
+    format: Format,
     operator: &mut O,
     request: CrashRequest,
     response: &mut Response,
 )
     requires { IsBlank response.old }
-    ensures { IsAnswered O.answers (Call.Crash request) operator.old response.new operator.new }
+    ensures { IsAnswered O.answers format (Call.Crash request) operator.old response.new operator.new }
 {
     let shown = match operator.crash(request) {
-        Ok(()) => show_node(alloc, StatusCode::OK, request.node, response),
-        Err(refusal) => refuse(alloc, Refusal::Crash(refusal), response),
+        Ok(()) => show_node(
+            alloc,
+            format,
+            StatusCode::OK,
+            request.node,
+            "crashed",
+            response,
+        ),
+        Err(refusal) => refuse(alloc, format, Refusal::Crash(refusal), response),
     };
     or_full(shown, response);
 }
 
 fn holder<O: Operator>(alloc: Global, operator: &mut O, id: Id, response: &mut Response)
     requires { IsBlank response.old }
-    ensures { IsAnswered O.answers (Call.Holder id) operator.old response.new operator.new }
+    ensures { (format : Format) → IsAnswered O.answers format (Call.Holder id) operator.old response.new operator.new }
 {
     let shown = show_holder(alloc, id, operator.holder(id), response);
     or_full(shown, response);
@@ -179,22 +212,23 @@ fn holder<O: Operator>(alloc: Global, operator: &mut O, id: Id, response: &mut R
 
 fn pairs<O: Operator>(
     alloc: Global,
+    format: Format,
     operator: &mut O,
     request: PairsRequest,
     response: &mut Response,
 )
     requires { IsBlank response.old }
-    ensures { IsAnswered O.answers (Call.Pairs request) operator.old response.new operator.new }
+    ensures { IsAnswered O.answers format (Call.Pairs request) operator.old response.new operator.new }
 {
     let told = operator.pairs(alloc, request);
-    let shown = show_told_pairs(alloc, &told, response);
+    let shown = show_told_pairs(alloc, format, &told, response);
     drop(told);
     or_full(shown, response);
 }
 
 fn stop<O: Operator>(operator: &mut O, response: &mut Response)
     requires { IsBlank response.old }
-    ensures { IsAnswered O.answers Call.Stop operator.old response.new operator.new }
+    ensures { (format : Format) → IsAnswered O.answers format Call.Stop operator.old response.new operator.new }
 {
     operator.stop();
     let shown = show_stopping(response);
@@ -202,20 +236,26 @@ fn stop<O: Operator>(operator: &mut O, response: &mut Response)
 }
 
 // Asks the operator the question of the call, once, and shows its answer.
-fn answer<O: Operator>(alloc: Global, operator: &mut O, call: OperatorCall, response: &mut Response)
+fn answer<O: Operator>(
+    alloc: Global,
+    format: Format,
+    operator: &mut O,
+    call: OperatorCall,
+    response: &mut Response,
+)
     requires { IsBlank response.old }
-    ensures { IsAnswered O.answers call operator.old response.new operator.new }
+    ensures { IsAnswered O.answers format call operator.old response.new operator.new }
 {
     match call {
         OperatorCall::Page => page(response),
-        OperatorCall::Ring => ring(alloc, operator, response),
-        OperatorCall::Metrics => metrics(alloc, operator, response),
+        OperatorCall::Ring => ring(alloc, format, operator, response),
+        OperatorCall::Metrics => metrics(alloc, format, operator, response),
         OperatorCall::Health => health(operator, response),
-        OperatorCall::Join(request) => join(alloc, operator, request, response),
-        OperatorCall::Leave(node) => leave(alloc, operator, node, response),
-        OperatorCall::Crash(request) => crash(alloc, operator, request, response),
+        OperatorCall::Join(request) => join(alloc, format, operator, request, response),
+        OperatorCall::Leave(node) => leave(alloc, format, operator, node, response),
+        OperatorCall::Crash(request) => crash(alloc, format, operator, request, response),
         OperatorCall::Holder(id) => holder(alloc, operator, id, response),
-        OperatorCall::Pairs(request) => pairs(alloc, operator, request, response),
+        OperatorCall::Pairs(request) => pairs(alloc, format, operator, request, response),
         OperatorCall::Stop => stop(operator, response),
     }
 }
@@ -223,17 +263,18 @@ fn answer<O: Operator>(alloc: Global, operator: &mut O, call: OperatorCall, resp
 // Answers a call, or says why the request is refused and asks nothing.
 fn deal<O: Operator>(
     alloc: Global,
+    format: Format,
     operator: &mut O,
     read: Result<OperatorCall, Refusal>,
     response: &mut Response,
 )
     requires { IsBlank response.old }
-    ensures { IsDealtWith O.answers read operator.old response.new operator.new }
+    ensures { IsDealtWith O.answers format read operator.old response.new operator.new }
 {
     match read {
-        Ok(call) => answer(alloc, operator, call, response),
+        Ok(call) => answer(alloc, format, operator, call, response),
         Err(refusal) => {
-            let shown = refuse(alloc, refusal, response);
+            let shown = refuse(alloc, format, refusal, response);
             or_full(shown, response);
         }
     }
@@ -249,7 +290,13 @@ impl<O: Operator> Service for OperatorService<O> {
         response: &mut Response,
     ) -> Result<(), AllocError> {
         let read = self.site.call_of(self.alloc, request);
-        deal(self.alloc, &mut self.operator, read, response);
+        deal(
+            self.alloc,
+            Format::of(request),
+            &mut self.operator,
+            read,
+            response,
+        );
         Ok(())
     }
 }

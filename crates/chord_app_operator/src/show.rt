@@ -2,20 +2,22 @@
 
 mod front_page;
 mod holder_json;
+mod inserts;
 mod json;
-mod measure;
 mod members;
+mod metric;
 mod metrics;
-mod metrics_heads;
-mod pairs_json;
+mod node_count;
 pub(crate) mod replies;
+mod ring_count;
+mod share;
 mod sight_json;
-mod total;
+mod table;
 
 pub use holder_json::holder_value;
+pub use inserts::pair_lines;
 pub use json::{ToJson, array, id_text, optional};
-pub use measure::Measure;
 pub use metrics::metrics_text;
-pub use pairs_json::pair_lines;
+pub use share::{Stretch, hundredths};
 pub use sight_json::ring_text;
-pub use total::Total;
+pub use table::ring_table;

@@ -1,11 +1,12 @@
 //! The command line of `ring`.
 
+use crate::ask::{copy_options, start_copy};
 use crate::faults::{fault_of, print_fault};
 use crate::number::{NumberOption, WrongNumber, number_from, small_number};
 use crate::parts::{flag, with_argument, with_command, with_numbers};
 use crate::shared;
 use chord_app_operator::{CrashRequest, JoinRequest, StoreKind};
-use chord_app_ring::{RingCommand, RingLine, RingTask, run_dump, run_restore, run_ring};
+use chord_app_ring::{RingCommand, RingLine, RingTask, run_dump, run_ring};
 use chord_app_text::Finish;
 use chord_ident::Id;
 use clap::{Arg, ArgMatches, Command};
@@ -31,11 +32,11 @@ const PORT: NumberOption = NumberOption {
 
 /// What `chord ring dump --help` ends with.
 const DUMP_NOTE: &str =
-    "Each pair is a line of JSON: {\"id\":..,\"key\":..,\"value\":..}, in hexadecimal digits.\nA copy made while clients write is of many moments: what they add or remove meanwhile may be in it or not.";
+    "Each pair is a line that chord ask reads: insert x:KEY x:VALUE, in hexadecimal digits. The last line is # pairs N.\nA copy made while clients write is of many moments: what they add or remove meanwhile may be in it or not.";
 
 /// What `chord ring restore --help` ends with.
 const RESTORE_NOTE: &str =
-    "Each line is a pair as dump writes it. Pairs that are there already stay, so it may be done again.";
+    "It is chord ask --quiet. Pairs that are there already stay, so it may be done again.";
 
 const TIMES: NumberOption = NumberOption {
     name: "times",
@@ -162,7 +163,7 @@ fn dump_command<'a>(alloc: Global) -> Command<'a> {
 
 fn restore_command<'a>(alloc: Global) -> Command<'a> {
     Command::new(alloc, "restore")
-        .about("Inserts the pairs that standard input has")
+        .about("Inserts the pairs of a copy on standard input")
         .after_help(RESTORE_NOTE)
 }
 
@@ -314,6 +315,6 @@ pub fn start_ring<R: Net<Stream = TcpStream> + Clock + Wait>(
     match task {
         RingTask::Ask(line) => run_ring(net, alloc, &line, &mut writer, &mut rt.stderr()),
         RingTask::Dump(port) => run_dump(net, alloc, port, &mut writer, &mut rt.stderr()),
-        RingTask::Restore(port) => run_restore(net, alloc, port, &mut rt.stdin(), &mut writer),
+        RingTask::Restore(port) => start_copy(rt, net, copy_options(rt, port)?),
     }
 }

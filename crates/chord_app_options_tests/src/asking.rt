@@ -3,6 +3,7 @@
 
 mod asks;
 mod clocks;
+mod copies;
 mod loads;
 mod loopback;
 mod sessions;

@@ -6,4 +6,5 @@ mod doors;
 mod ends;
 mod patience;
 mod polling;
+mod seldom;
 mod stopping;

@@ -1,11 +1,2 @@
-pub mod Lists
-pub mod Bytes
-pub mod Circles
-pub mod Ends
-pub mod Faults
-pub mod Inserts
-pub mod Nodes
-pub mod Restored
-pub mod Spelled
-pub mod Texts
-pub mod Refusals
+pub mod Counts
+pub mod Written

@@ -68,10 +68,12 @@ size_of Stop = Known 0
 abbrev pub limits : Limits
 limits = record { max_head_len = 16384; max_extensions_len = 16384; max_trailers_len = 16384 }
 
--- a request to the server with this port: its head as HTTP/1.1 writes it, and its body
+-- a request to the server with this port for an answer in text: its head as HTTP/1.1 writes it, and
+-- its body
 abbrev pub request_by : ℕ → (method path : List ℕ) → BodySize → List ℕ → List ℕ
 request_by port method path size body =
-    planned_request (new_client limits) method path size ((codes "host", codes "127.0.0.1:" ++ decimal port) ∷ []) ++ body
+    planned_request (new_client limits) method path size
+    ((codes "host", codes "127.0.0.1:" ++ decimal port) ∷ (codes "accept", codes "text/plain") ∷ []) ++ body
 
 abbrev pub request_of : ℕ → RingCommand → List ℕ
 request_of port command = request_by port (method_of command) (path_of command) (size_of command) (body_of command)
@@ -90,11 +92,3 @@ pairs_path r = pairs_path_of r.after r.limit
 -- the request for it
 abbrev pub pairs_request : ℕ → PairsRequest → List ℕ
 pairs_request port r = request_by port (codes "GET") (pairs_path r) Empty []
-
--- the status of an answer that does what is asked (RFC 9110, section 15.3)
-abbrev pub good_status : RingCommand → ℕ
-good_status Show = 200
-good_status (Join request) = 201
-good_status (Leave node) = 202
-good_status (Crash request) = 200
-good_status Stop = 202

@@ -1,11 +1,5 @@
 pub mod Asked
 pub mod Dumping
 pub mod Faults
-pub mod Inserting
-pub mod Lines
 pub mod Pages
-pub mod PairLines
-pub mod Reading
-pub mod Restoring
-pub mod Shares
 pub mod Telling

@@ -1,6 +1,6 @@
 //! What the command asks for.
 ghost use Rattle.std.specs.Prelude.{◌≡◌};
-ghost use Rattle.chord_app_ring.specs.Asked.{method_of, good_status};
+ghost use Rattle.chord_app_ring.specs.Asked.{method_of};
 
 use chord_app_operator::{CrashRequest, JoinRequest};
 
@@ -27,17 +27,6 @@ impl RingCommand {
             _ => "POST",
         }
     }
-
-    /// The status of an answer that does what is asked.
-    pub fn good_status(&self) -> u16
-        ensures { result ≡ good_status self.now }
-    {
-        match self {
-            RingCommand::Show | RingCommand::Crash(_) => 200,
-            RingCommand::Join(_) => 201,
-            RingCommand::Leave(_) | RingCommand::Stop => 202,
-        }
-    }
 }
 
 /// What is asked for, and how often.
@@ -56,6 +45,6 @@ pub enum RingTask {
     Ask(RingLine),
     /// All pairs of the server with this operator's port are written.
     Dump(u16),
-    /// Pairs are inserted at the server with this port for clients.
+    /// A copy is asked of the server with this port for clients.
     Restore(u16),
 }

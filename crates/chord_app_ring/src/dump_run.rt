@@ -2,7 +2,7 @@
 ghost use Rattle.std.specs.Prelude.{◌≡◌, ◌⊎◌, Option, Result};
 ghost use Rattle.chord_app_text.specs.declared.finish.Finish.TheVariants as End;
 ghost use Rattle.chord_app_text.specs.declared.finish.Fault.TheVariants as Cause;
-ghost use Rattle.chord_app_ring.specs.Faults.{dump_finish_of};
+ghost use Rattle.chord_app_ring.specs.Faults.{dump_finish_of, EndsSo};
 
 use crate::connecting::connect;
 use crate::dumping::{DumpFault, PageTeller, dump};
@@ -44,7 +44,7 @@ impl<R: Net<Stream = TcpStream> + Clock> PageTeller for ServerPages<'_, R> {
     }
 }
 
-/// How the command ends by a fault. The name of a refusal is written.
+/// How the command ends by a fault.
 fn end_dump<E: Write>(fault: DumpFault, port: u16, errors: &mut E) -> Finish
     ensures { (result ≡ dump_finish_of port fault) ⊎ (result ≡ End.Fault Cause.Write) }
 {
@@ -52,11 +52,28 @@ fn end_dump<E: Write>(fault: DumpFault, port: u16, errors: &mut E) -> Finish
         DumpFault::Ring(fault) => end_by(fault, port, errors),
         DumpFault::UnderWay => Finish::Fault(Fault::UnderWay),
         DumpFault::Write => Finish::Fault(Fault::Write),
+        DumpFault::Memory => Finish::OutOfMemory,
     }
 }
 
-/// Writes all pairs of the server with this operator's port to `writer`, a line each, and the name
-/// of a refusal to `errors`.
+/// How a copy ends.
+fn end_copy<E: Write>(
+    copied: Result<bool, DumpFault>,
+    port: u16,
+    errors: &mut E,
+) -> Result<Finish, Finish>
+    ensures { EndsSo port copied result }
+{
+    match copied {
+        Ok(false) => Ok(Finish::Done),
+        Ok(true) => Err(Finish::Fault(Fault::PassedOver)),
+        Err(fault) => Err(end_dump(fault, port, errors)),
+    }
+}
+
+/// Writes all pairs of the server with this operator's port to `writer`, as inserts, a line each,
+/// and behind them their number. What is passed over, and what the server says of a refusal, is
+/// written to `errors`.
 pub fn run_dump<R: Net<Stream = TcpStream> + Clock, W: Write, E: Write>(
     rt: &R,
     alloc: Global,
@@ -65,8 +82,6 @@ pub fn run_dump<R: Net<Stream = TcpStream> + Clock, W: Write, E: Write>(
     errors: &mut E,
 ) -> Result<Finish, Finish> {
     let mut pages = ServerPages { rt, alloc, port };
-    match dump(&mut pages, writer) {
-        Ok(()) => Ok(Finish::Done),
-        Err(fault) => Err(end_dump(fault, port, errors)),
-    }
+    let copied = dump(alloc, &mut pages, writer, errors);
+    end_copy(copied, port, errors)
 }

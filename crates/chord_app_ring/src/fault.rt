@@ -1,31 +1,10 @@
 //! Why the command does not do what it is asked for.
 ghost use Rattle.std.specs.Prelude.{◌≡◌};
-ghost use Rattle.chord_app_ring.specs.declared.fault.ReadFault.TheVariants.{Memory};
-ghost use Rattle.chord_app_ring.specs.declared.fault.RestoreFault.TheVariants as restore;
 ghost use Rattle.chord_app_ring.specs.declared.fault.RingFault.TheVariants as ring;
-ghost use Rattle.chord_app_ring.specs.Faults.{ring_fault};
 
-use chord_app_text::{InsertFault, PairFault};
 use std::alloc::{AllocError, AllocFailed};
 use std::io;
 use thiserror::Error;
-
-/// Why a text is not read.
-#[derive(Clone, Copy, Debug, PartialEq, Eq, Error)]
-pub enum ReadFault {
-    #[error("the server's answer is not understood")]
-    NotUnderstood,
-    #[error("out of memory")]
-    Memory,
-}
-
-impl From<AllocError> for ReadFault {
-    ghost from_gives = { λ _ fault. fault ≡ Memory };
-
-    fn from(_refused: AllocError) -> ReadFault {
-        ReadFault::Memory
-    }
-}
 
 /// Why the server did not do what it was asked for, or is not known to have done it.
 #[derive(Debug, Drop, Error)]
@@ -38,9 +17,12 @@ pub enum RingFault {
     Lost,
     #[error("the server's answer is not understood")]
     NotUnderstood,
-    /// The server refused, for the reason with this name.
+    /// The server refused, and says so in this text.
     #[error("refused")]
-    Refused(String),
+    Refused(Vec<u8>),
+    /// The server had no memory, not for an answer either.
+    #[error("the server is out of memory")]
+    ServerMemory,
     #[error("out of memory")]
     Memory,
 }
@@ -58,36 +40,5 @@ impl<T: Drop> From<AllocFailed<T>> for RingFault {
 
     fn from(_refused: AllocFailed<T>) -> RingFault {
         RingFault::Memory
-    }
-}
-
-impl From<ReadFault> for RingFault {
-    ghost from_gives = { λ fault of_ring. of_ring ≡ ring_fault fault };
-
-    fn from(fault: ReadFault) -> RingFault {
-        match fault {
-            ReadFault::NotUnderstood => RingFault::NotUnderstood,
-            ReadFault::Memory => RingFault::Memory,
-        }
-    }
-}
-
-/// Why a line of a copy is not restored.
-#[derive(Clone, Copy, Debug, PartialEq, Eq)]
-pub enum RestoreFault {
-    /// It is no pair.
-    Pair(PairFault),
-    /// Its pair is not inserted, or is not known to be.
-    Insert(InsertFault),
-    /// The input cannot be read.
-    Read,
-    Memory,
-}
-
-impl From<AllocError> for RestoreFault {
-    ghost from_gives = { λ _ fault. fault ≡ restore.Memory };
-
-    fn from(_refused: AllocError) -> RestoreFault {
-        RestoreFault::Memory
     }
 }

@@ -3,16 +3,24 @@ ghost use Rattle.std.specs.Prelude.{length, All};
 ghost use Rattle.httparse.specs.Spans.{IsHeaderWithin};
 
 use crate::fault::RingFault;
+use chord_app_operator::PageState;
 use http1::{Client, Event, ReadError};
 use httparse::spans::{EMPTY_HEADER_SPAN, HeaderSpan};
 use std::alloc::Global;
+use std::str;
 
 /// The most fields of an answer.
 const FIELDS: usize = 64;
 
-/// The most bytes of an answer's body. A ring of 4,096 nodes has a few million, and a page of pairs
-/// at most 18 million: 999 pairs before the last identifier, and 1,000 of its key.
+/// The most bytes of an answer's body. A page of pairs has at most 18 million: 999 pairs before the
+/// last identifier, and 1,000 of its key.
 const BODY_BYTES: usize = 67_108_864;
+
+/// The field that names the type of an answer.
+const TYPE: &[u8] = b"content-type";
+
+/// The field of a page that says who holds its first identifier.
+const STATE: &[u8] = b"chord-page";
 
 /// The field of a page that names the identifier to go on behind.
 const NEXT: &[u8] = b"chord-next";
@@ -22,6 +30,10 @@ const NEXT: &[u8] = b"chord-next";
 pub struct Answer {
     /// Its status.
     pub status: u16,
+    /// Whether it is plain text.
+    pub is_text: bool,
+    /// Who holds the first identifier of a page, if it is one.
+    pub state: Option<PageState>,
     /// The value of its field `chord-next`, if it has one.
     pub next: Option<Vec<u8>>,
     pub body: Vec<u8>,
@@ -65,6 +77,26 @@ fn value_of<'a>(bytes: &'a [u8], fields: &[HeaderSpan], name: &[u8]) -> Option<&
     None
 }
 
+/// Whether the type that these fields name is plain text.
+fn is_text(bytes: &[u8], fields: &[HeaderSpan]) -> bool
+    requires { All (IsHeaderWithin (length bytes.now)) fields.now }
+{
+    match value_of(bytes, fields, TYPE) {
+        Some(kind) => kind.starts_with(b"text/plain"),
+        None => false,
+    }
+}
+
+/// The state that these fields name.
+fn state_of(bytes: &[u8], fields: &[HeaderSpan]) -> Option<PageState>
+    requires { All (IsHeaderWithin (length bytes.now)) fields.now }
+{
+    match str::from_utf8(value_of(bytes, fields, STATE)?) {
+        Ok(word) => PageState::of_word(word),
+        Err(_) => None,
+    }
+}
+
 impl Inbox {
     /// For the answer to the request that this client wrote.
     pub fn new(alloc: Global, client: Client) -> Inbox {
@@ -73,6 +105,8 @@ impl Inbox {
             unread: Vec::new(alloc),
             answer: Answer {
                 status: 0,
+                is_text: false,
+                state: None,
                 next: None,
                 body: Vec::new(alloc),
             },
@@ -96,6 +130,8 @@ impl Inbox {
             Event::Head(head) => {
                 self.answer.status = head.code;
                 let fields = &headers[..head.headers];
+                self.answer.is_text = is_text(&self.unread, fields);
+                self.answer.state = state_of(&self.unread, fields);
                 self.answer.next = match value_of(&self.unread, fields, NEXT) {
                     Some(value) => Some(Vec::from_slice(*self.unread.allocator(), value)?),
                     None => None,

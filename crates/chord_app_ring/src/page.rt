@@ -4,8 +4,8 @@ ghost use Rattle.chord_app_ring.specs.Pages.{id_in, first_behind, turn_of, reque
 
 use crate::fault::RingFault;
 use crate::inbox::Answer;
-use crate::told::refusal;
-use chord_app_operator::PairsRequest;
+use crate::told::text_of;
+use chord_app_operator::{PageState, PairsRequest};
 use chord_ident::Id;
 
 /// How many pairs a page has, if it is not the last of a node's segment.
@@ -14,8 +14,10 @@ pub const PAGE_PAIRS: u64 = 1000;
 /// A page of a server's pairs.
 #[derive(Debug, Drop)]
 pub struct Page {
-    /// A line of JSON for each pair.
+    /// The insert of each pair, a line each.
     pub lines: Vec<u8>,
+    /// Who holds the first identifier.
+    pub state: PageState,
     /// The identifier to go on behind. None at the end.
     pub next: Option<Id>,
 }
@@ -58,19 +60,27 @@ fn next_in(next: Option<Vec<u8>>) -> Result<Option<Id>, RingFault>
 }
 
 /// The page that an answer is.
-pub fn page_of(answer: Answer) -> Result<Page, RingFault>
+pub fn page_of(mut answer: Answer) -> Result<Page, RingFault>
     ensures { IsPageOf answer result }
 {
-    if answer.status != 200 {
-        let fault = refusal(*answer.body.allocator(), &answer);
-        drop(answer);
-        return Err(fault);
-    }
-    let Answer { body, next, .. } = answer;
-    match next_in(next) {
-        Ok(next) => Ok(Page { lines: body, next }),
+    let state = answer.state;
+    let next = answer.next.take();
+    let lines = match text_of(answer) {
+        Ok(lines) => lines,
         Err(fault) => {
-            drop(body);
+            drop(next);
+            return Err(fault);
+        }
+    };
+    let Some(state) = state else {
+        drop(next);
+        drop(lines);
+        return Err(RingFault::NotUnderstood);
+    };
+    match next_in(next) {
+        Ok(next) => Ok(Page { lines, state, next }),
+        Err(fault) => {
+            drop(lines);
             Err(fault)
         }
     }
@@ -86,34 +96,29 @@ pub fn request_behind(after: Option<Id>) -> PairsRequest
     }
 }
 
-// The identifier from which on pairs are read.
-fn first_behind(after: Option<Id>) -> u128
+/// The identifier with which the page behind this one begins.
+pub fn first_behind(after: Option<Id>) -> Id
     ensures { result ≡ first_behind after }
 {
     match after {
-        Some(after) => after.number.wrapping_add(1),
-        None => 0,
+        Some(after) => Id::new(after.number.wrapping_add(1)),
+        None => Id::new(0),
     }
 }
 
 impl Page {
     /// What follows the page that was asked for behind an identifier. None where no server tells
-    /// such a page: it goes back, or has pairs that are under way.
+    /// such a page, since it goes back.
     pub fn turn(&self, after: Option<Id>) -> Option<PageTurn>
         ensures { result ≡ turn_of after self.now }
     {
+        if self.state == PageState::UnderWay {
+            return Some(PageTurn::UnderWay);
+        }
         let Some(next) = self.next else {
             return Some(PageTurn::End);
         };
-        let first = first_behind(after);
-        if next.number.wrapping_add(1) == first {
-            return if self.lines.is_empty() {
-                Some(PageTurn::UnderWay)
-            } else {
-                None
-            };
-        }
-        if first <= next.number && next.number != u128::MAX {
+        if first_behind(after).number <= next.number && next.number != u128::MAX {
             Some(PageTurn::On(next))
         } else {
             None

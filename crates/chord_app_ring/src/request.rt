@@ -114,10 +114,16 @@ fn write_request(
 {
     let alloc = *path.allocator();
     let host = format!(in alloc; "127.0.0.1:{port}")?;
-    let headers = [Header {
-        name: b"host",
-        value: host.as_bytes(),
-    }];
+    let headers = [
+        Header {
+            name: b"host",
+            value: host.as_bytes(),
+        },
+        Header {
+            name: b"accept",
+            value: b"text/plain",
+        },
+    ];
     let mut request = Vec::new(alloc);
     let written = client.write_request(
         &mut request,

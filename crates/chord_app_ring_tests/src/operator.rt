@@ -2,8 +2,8 @@
 
 mod answers;
 mod calls;
-mod devices;
-mod operators;
+pub mod devices;
+pub mod operators;
 mod refusals;
-mod sights;
+pub mod sights;
 mod words;

@@ -2,46 +2,48 @@
 //! `empty_node(alloc, 3, 0, Phase::Gone)`, and a ring without nodes.
 
 use chord_app_operator::{
-    AskCounts, CallerCounts, EndCounts, HandoverCounts, NodeSight, Phase, RingSight, SessionCounts,
-    StoreKind,
+    CallerCounts, EndCounts, RingSight, SessionCounts, StoreKind, StoredNode,
 };
 use chord_ident::Id;
+use chord_sight::{AskCounts, HandoverCounts, NodeCounts, NodeSight, Phase};
 use std::alloc::{AllocError, Global};
 
-const NO_ASKS: AskCounts = AskCounts {
-    told: 0,
-    forwarded: 0,
-    dropped: 0,
-    full: 0,
-};
-
-const NO_HANDOVERS: HandoverCounts = HandoverCounts {
-    given: 0,
-    taken: 0,
-    declined: 0,
+const NO_COUNTS: NodeCounts = NodeCounts {
+    asks: AskCounts {
+        told: 0,
+        forwarded: 0,
+        dropped: 0,
+        full: 0,
+    },
+    handovers: HandoverCounts {
+        given: 0,
+        taken: 0,
+        declined: 0,
+    },
+    ticks: 0,
 };
 
 /// A node that knows and holds nothing, and did nothing.
-pub fn empty_node(alloc: Global, node: u64, number: u128, phase: Phase) -> NodeSight {
-    NodeSight {
-        node,
-        id: Id::new(number),
-        phase,
+pub fn empty_node(alloc: Global, node: u64, number: u128, phase: Phase) -> StoredNode {
+    StoredNode {
+        sight: NodeSight {
+            number: node,
+            id: Id::new(number),
+            phase,
+            predecessor: None,
+            successors: Vec::new(alloc),
+            fingers: 0,
+            segments: Vec::new(alloc),
+            pairs: 0,
+            outbox: Vec::new(alloc),
+            counts: NO_COUNTS,
+        },
         store: StoreKind::Tree,
-        predecessor: None,
-        successors: Vec::new(alloc),
-        fingers: 0,
-        segments: Vec::new(alloc),
-        pairs: 0,
-        outbox: Vec::new(alloc),
-        asks: NO_ASKS,
-        handovers: NO_HANDOVERS,
-        ticks: 0,
     }
 }
 
 /// The node, if it got its lists.
-pub fn filled(outcome: Result<(), AllocError>, node: NodeSight) -> Result<NodeSight, AllocError> {
+pub fn filled(outcome: Result<(), AllocError>, node: StoredNode) -> Result<StoredNode, AllocError> {
     match outcome {
         Ok(()) => Ok(node),
         Err(refused) => {
@@ -56,6 +58,7 @@ pub fn empty_ring(alloc: Global) -> RingSight {
     RingSight {
         successors: 4,
         slots: 16,
+        premise: true,
         callers: CallerCounts { open: 3, all: 64 },
         connections: 5,
         ends: EndCounts {

@@ -3,12 +3,8 @@
 mod answers;
 mod both_ends;
 mod dumps;
-mod input_lines;
 mod loopback;
-mod operators;
-mod reading;
 mod requests;
-mod restores;
 mod runs;
 mod sights;
 mod streams;

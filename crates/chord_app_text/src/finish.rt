@@ -5,7 +5,7 @@ ghost use Rattle.chord_app_text.specs.Ends.{finish_of_kind};
 ghost use Rattle.chord_app_text.specs.declared.finish.Finish.TheVariants.{OutOfMemory};
 
 use crate::grammar_fault::GrammarFault;
-use crate::pair_fault::{InsertFault, PairFault};
+use crate::undone::Undone;
 use crate::word_fault::WordFault;
 use std::alloc::{AllocError, AllocFailed};
 use std::io::ErrorKind;
@@ -42,10 +42,12 @@ pub enum Fault {
     Answer,
     /// Pairs that are to be copied stayed under way from one node to another.
     UnderWay,
-    /// This line, from 1, is no pair.
-    Pair { line: u64, why: PairFault },
-    /// The pair of this line, from 1, was not inserted.
-    Insert { line: u64, why: InsertFault },
+    /// Pairs that are lost with a node are not in a copy.
+    PassedOver,
+    /// A copy does not end with the number of its pairs.
+    Cut,
+    /// The request of this line of a copy, from 1, is not done.
+    Undone { line: u64, why: Undone },
 }
 
 impl fmt::Display for Fault {
@@ -89,8 +91,13 @@ impl fmt::Display for Fault {
                 f.write_str("fault underway\npairs stay under way from one node to another; ")?;
                 f.write_str("the copy ends before them")
             }
-            Fault::Pair { line, why } => write!(f, "fault line {line}\n{why}"),
-            Fault::Insert { line, why } => write!(f, "fault line {line}\n{why}"),
+            Fault::PassedOver => {
+                f.write_str("fault passed\nwhat was lost with a node is not in the copy")
+            }
+            Fault::Cut => {
+                f.write_str("fault cut\nthe last line does not tell how many pairs there are")
+            }
+            Fault::Undone { line, why } => write!(f, "fault line {line}\n{why}"),
         }
     }
 }

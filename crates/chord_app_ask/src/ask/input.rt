@@ -1,6 +1,7 @@
 //! Requests on the input, one a line.
 ghost use Rattle.chord_map.specs.Checked.{IsRequest};
 
+use crate::ask::copy::{CopyRead, first_undone};
 use crate::ask::group::ask_group;
 use crate::ask::line::read_line;
 use crate::ask::link::ClientOptions;
@@ -12,9 +13,6 @@ use std::alloc::Global;
 use std::io::{self, Read, Write};
 use std::net::{Net, TcpStream};
 use std::time::Clock;
-
-/// How many reads are made of the input at most.
-const READS: u32 = 1_048_576;
 
 /// The most bytes of a line. The longest request has a few less.
 const LINE_BYTES: usize = 16_384;
@@ -31,6 +29,8 @@ struct AskSession {
     lines: u64,
     /// How many requests got no reply.
     unanswered: u64,
+    /// How much was read of a copy, if the input is one.
+    copy: Option<CopyRead>,
 }
 
 /// Writes a line for each request that has an outcome. Gives how many have no reply.
@@ -54,6 +54,7 @@ impl AskSession {
         rt: &R,
         alloc: Global,
         client_options: ClientOptions,
+        copy: Option<CopyRead>,
     ) -> Result<AskSession, Finish> {
         let links = Links::open(rt, alloc, client_options)?;
         Ok(AskSession {
@@ -64,6 +65,7 @@ impl AskSession {
             line: Vec::new(alloc),
             lines: 0,
             unanswered: 0,
+            copy,
         })
     }
 
@@ -81,6 +83,20 @@ impl AskSession {
         Ok(self.end())
     }
 
+    /// Writes the outcomes of the requests that were asked. Of a copy all of them have to be done.
+    fn tell<W: Write>(&mut self, writer: &mut W) -> Result<(), Finish> {
+        if self.copy.is_some() {
+            let first = self.lines.saturating_sub(self.questions.len() as u64);
+            return match first_undone(&self.questions, first.saturating_add(1)) {
+                Some(fault) => Err(Finish::Fault(fault)),
+                None => Ok(()),
+            };
+        }
+        let unanswered = write_outcomes(&self.questions, writer)?;
+        self.unanswered = self.unanswered.saturating_add(unanswered);
+        Ok(())
+    }
+
     /// Asks the waiting requests, and writes their outcomes. If no server is found, they are lost.
     fn settle<R: Net<Stream = TcpStream> + Clock, W: Write>(
         &mut self,
@@ -94,9 +110,12 @@ impl AskSession {
                 question.give_up();
             }
         }
-        let unanswered = write_outcomes(&self.questions, writer)?;
-        self.unanswered = self.unanswered.saturating_add(unanswered);
+        let told = self.tell(writer);
         self.questions.clear();
+        if asked == Err(Finish::OutOfMemory) {
+            return asked;
+        }
+        told?;
         asked
     }
 
@@ -108,8 +127,36 @@ impl AskSession {
         writer: &mut W,
     ) -> Result<(), Finish> {
         self.settle(rt, writer)?;
-        let line = self.lines;
+        let line = self.lines.saturating_add(1);
         Err(Finish::Fault(Fault::Request { line, why }))
+    }
+
+    /// Asks the requests before a line that begins with `#`, and passes over that.
+    fn pass_over<R: Net<Stream = TcpStream> + Clock, W: Write>(
+        &mut self,
+        rt: &R,
+        writer: &mut W,
+    ) -> Result<(), Finish> {
+        self.settle(rt, writer)?;
+        if let Some(copy) = self.copy {
+            self.copy = Some(copy.with_comment(self.alloc, &self.line)?);
+        }
+        Ok(())
+    }
+
+    /// Takes in the request of a whole line.
+    fn take_request<R: Net<Stream = TcpStream> + Clock, W: Write>(
+        &mut self,
+        rt: &R,
+        writer: &mut W,
+    ) -> Result<(), Finish> {
+        match read_line(self.alloc, &self.line) {
+            Ok(request) => self.questions.push(Question::new(request))?,
+            Err(WordFault::OutOfMemory) => return Err(Finish::OutOfMemory),
+            Err(why) => return self.refuse(rt, why, writer),
+        }
+        self.copy = self.copy.map(CopyRead::with_request);
+        Ok(())
     }
 
     /// Takes in a whole line, and asks once as many requests wait as may be in flight.
@@ -118,12 +165,12 @@ impl AskSession {
         rt: &R,
         writer: &mut W,
     ) -> Result<(), Finish> {
-        self.lines = self.lines.saturating_add(1);
-        match read_line(self.alloc, &self.line) {
-            Ok(request) => self.questions.push(Question::new(request))?,
-            Err(WordFault::OutOfMemory) => return Err(Finish::OutOfMemory),
-            Err(why) => return self.refuse(rt, why, writer),
+        if self.line.starts_with(b"#") {
+            self.pass_over(rt, writer)?;
+        } else {
+            self.take_request(rt, writer)?;
         }
+        self.lines = self.lines.saturating_add(1);
         self.line.clear();
         if self.questions.len() as u64 >= self.client_options.window {
             self.settle(rt, writer)?;
@@ -131,7 +178,8 @@ impl AskSession {
         Ok(())
     }
 
-    /// Takes in bytes of the input, and asks each request whose line is whole.
+    /// Takes in bytes of the input, and asks each request whose line is whole; of a copy, as many
+    /// together as may be in flight.
     fn take_in<R: Net<Stream = TcpStream> + Clock, W: Write>(
         &mut self,
         rt: &R,
@@ -144,9 +192,25 @@ impl AskSession {
             } else if self.line.len() < LINE_BYTES {
                 self.line.push(*byte)?;
             } else {
-                self.lines = self.lines.saturating_add(1);
                 return self.refuse(rt, WordFault::LineLong, writer);
             }
+        }
+        if self.copy.is_some() {
+            return Ok(());
+        }
+        self.settle(rt, writer)
+    }
+
+    /// Takes in the end of the input. Of a copy a line without an end is none.
+    fn finish_input<R: Net<Stream = TcpStream> + Clock, W: Write>(
+        &mut self,
+        rt: &R,
+        writer: &mut W,
+    ) -> Result<(), Finish> {
+        if self.copy.is_some() && !self.line.is_empty() {
+            self.copy = Some(CopyRead::NONE);
+        } else if !self.line.is_empty() {
+            self.finish_line(rt, writer)?;
         }
         self.settle(rt, writer)
     }
@@ -159,7 +223,10 @@ impl AskSession {
         writer: &mut W,
     ) -> Result<Finish, Finish> {
         self.run(rt, reader, writer)?;
-        Ok(self.end())
+        match self.copy {
+            Some(copy) => copy.end(self.alloc, writer),
+            None => Ok(self.end()),
+        }
     }
 
     /// Reads the input to its end, at most 4,096 bytes at a time.
@@ -170,14 +237,9 @@ impl AskSession {
         writer: &mut W,
     ) -> Result<(), Finish> {
         let mut piece = [0u8; 4096];
-        for _ in 0..READS {
+        for _ in 0..u64::MAX {
             match reader.read(&mut piece) {
-                Ok(0) => {
-                    if !self.line.is_empty() {
-                        self.finish_line(rt, writer)?;
-                    }
-                    return self.settle(rt, writer);
-                }
+                Ok(0) => return self.finish_input(rt, writer),
                 Ok(count) => self.take_in(rt, &piece[..count], writer)?,
                 Err(_) => return Err(Finish::Fault(Fault::Read)),
             }
@@ -195,6 +257,23 @@ impl AskSession {
     }
 }
 
+/// Asks the requests on the input, one a line, and writes a line for each, or of a copy how many
+/// there were.
+fn ask_input<R: Net<Stream = TcpStream> + Clock, I: Read, W: Write>(
+    rt: &R,
+    alloc: Global,
+    client_options: ClientOptions,
+    copy: Option<CopyRead>,
+    reader: &mut I,
+    writer: &mut W,
+) -> Result<Finish, Finish> {
+    let mut session = AskSession::open(rt, alloc, client_options, copy)?;
+    let asked = session.ask_all(rt, reader, writer);
+    session.links.close();
+    drop(session);
+    asked
+}
+
 /// Asks the requests on the input, one a line, and writes a line for each.
 pub fn ask_lines<R: Net<Stream = TcpStream> + Clock, I: Read, W: Write>(
     rt: &R,
@@ -203,11 +282,20 @@ pub fn ask_lines<R: Net<Stream = TcpStream> + Clock, I: Read, W: Write>(
     reader: &mut I,
     writer: &mut W,
 ) -> Result<Finish, Finish> {
-    let mut session = AskSession::open(rt, alloc, client_options)?;
-    let asked = session.ask_all(rt, reader, writer);
-    session.links.close();
-    drop(session);
-    asked
+    ask_input(rt, alloc, client_options, None, reader, writer)
+}
+
+/// Asks the requests of a copy, up to the first that is not done, and writes how many there were if
+/// its last line tells the same number.
+pub fn ask_copy<R: Net<Stream = TcpStream> + Clock, I: Read, W: Write>(
+    rt: &R,
+    alloc: Global,
+    client_options: ClientOptions,
+    reader: &mut I,
+    writer: &mut W,
+) -> Result<Finish, Finish> {
+    let copy = Some(CopyRead::NONE);
+    ask_input(rt, alloc, client_options, copy, reader, writer)
 }
 
 /// Asks one request, and writes its line.
@@ -220,7 +308,7 @@ pub fn ask_one<R: Net<Stream = TcpStream> + Clock, W: Write>(
 ) -> Result<Finish, Finish>
     requires { IsRequest request }
 {
-    match AskSession::open(rt, alloc, client_options) {
+    match AskSession::open(rt, alloc, client_options, None) {
         Ok(mut session) => {
             let asked = session.ask(rt, request, writer);
             session.links.close();

@@ -392,7 +392,8 @@ async function look() {
     drawCircle(ring);
     drawTable(ring);
     drawStrip(ring.uptime_ms);
-    say(byId("state"), `${several(ring.nodes.length, "node")} in ${several(ring.slots, "slot")}, ${several(ring.connections, "connection")}, ${ring.callers.open} of ${several(ring.callers.all, "caller")} open`);
+    say(byId("state"), `${several(ring.nodes.length, "node")} in ${several(ring.slots, "slot")}, ${several(ring.connections, "connection")}, ${ring.callers.open} of ${several(ring.callers.all, "caller")} open${ring.premise ? "" : ". A crash was forced that the ring did not allow: start a new ring"}`);
+    byId("state").className = ring.premise ? "" : "bad";
     document.body.className = "";
   } catch (error) {
     say(byId("state"), "The server is gone. What is shown is the last that it told.");

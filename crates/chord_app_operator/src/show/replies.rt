@@ -1,22 +1,24 @@
 //! Answers as responses.
-ghost use Rattle.std.specs.Prelude.{◌≡◌, codes, false, IsTrue, IfOk, OnOk, OnErr};
+ghost use Rattle.std.specs.Prelude.{◌≡◌, codes, false, string_bytes, IsTrue, IfOk, OnOk, OnErr};
 ghost use Rattle.http_header.specs.FieldValue.{is_visible_text};
 ghost use Rattle.http_server.specs.Response.{IsBlank, IsResponse, fields_of};
-ghost use Rattle.chord_app_operator.specs.Replies.{typed, text_type, metrics_type, IsPage, IsJson, IsHealth, IsRefused, IsPairs, IsFull};
+ghost use Rattle.chord_app_operator.specs.Replies.{typed, type_in, body_in, text_type, metrics_type, IsPage, IsJson, IsHealth, IsRing, IsNode, IsRefused, IsPairs, IsFull};
 ghost use Rattle.serde_json.specs.Written.{compact_text, has_float};
 ghost use Rattle.serde_json.specs.View.{view};
 ghost use Rattle.chord_app_operator.specs.Metrics.{metrics_text};
 ghost use Rattle.chord_app_operator.specs.Words.{refusal_status};
 ghost use Rattle.chord_app_operator.specs.Json.{id_hex, refused, node_named, holder_data, ring_data};
+ghost use Rattle.chord_app_operator.specs.Lines.{node_deed, refusal_line};
 
 use super::front_page::{FRONT_PAGE, PAGE_POLICY};
 use super::holder_json::holder_value;
+use super::inserts::pair_lines;
 use super::json::id_text;
 use super::members::{counts_value, put_word};
-use super::pairs_json::pair_lines;
 use super::sight_json::ring_text;
+use super::table::ring_table;
 use crate::operator::{Holder, PairsPage};
-use crate::request::Refusal;
+use crate::request::{Format, Refusal};
 use crate::sight::RingSight;
 use bytes::Bytes;
 use chord_ident::Id;
@@ -46,6 +48,18 @@ fn fill(
         HeaderValue::from_static("no-store"),
     )?;
     response.body.push(body)
+}
+
+fn fill_text(response: &mut Response, status: StatusCode, text: String) -> Result<(), AllocError>
+    requires blank { IsBlank response.old }
+    ensures { OnOk result (IsResponse status (typed text_type) (string_bytes text) response.new) }
+{
+    fill(
+        response,
+        status,
+        "text/plain; charset=utf-8",
+        Bytes::from_string(text)?,
+    )
 }
 
 // The value as the body. It has no float.
@@ -85,8 +99,8 @@ pub(crate) fn show_page(response: &mut Response) -> Result<(), AllocError>
     )
 }
 
-/// The ring.
-pub(crate) fn show_ring(
+// The ring as JSON.
+fn show_ring_json(
     alloc: Global,
     sight: &RingSight,
     response: &mut Response,
@@ -101,6 +115,22 @@ pub(crate) fn show_ring(
         "application/json",
         Bytes::from_string(text)?,
     )
+}
+
+/// The ring.
+pub(crate) fn show_ring(
+    alloc: Global,
+    format: Format,
+    sight: &RingSight,
+    response: &mut Response,
+) -> Result<(), AllocError>
+    requires { IsBlank response.old }
+    ensures { OnOk result (IsRing format sight.now response.new) }
+{
+    match format {
+        Format::Json => show_ring_json(alloc, sight, response),
+        Format::Text => fill_text(response, StatusCode::OK, ring_table(alloc, sight)?),
+    }
 }
 
 /// Whether a node stays.
@@ -125,8 +155,8 @@ pub(crate) fn show_health(is_healthy: bool, response: &mut Response) -> Result<(
     }
 }
 
-/// The number of a node.
-pub(crate) fn show_node(
+// The number of a node.
+fn show_number(
     alloc: Global,
     status: StatusCode,
     node: u64,
@@ -139,6 +169,30 @@ pub(crate) fn show_node(
     let shown = fill_json(alloc, response, status, &value);
     drop(value);
     shown
+}
+
+fn node_deed(alloc: Global, node: u64, deed: &str) -> Result<String, AllocError>
+    ensures { IfOk result (λ line. string_bytes line ≡ node_deed node deed.now) }
+{
+    format!(in alloc; "node {node} {deed}\n")
+}
+
+/// What was done to a node.
+pub(crate) fn show_node(
+    alloc: Global,
+    format: Format,
+    status: StatusCode,
+    node: u64,
+    deed: &str,
+    response: &mut Response,
+) -> Result<(), AllocError>
+    requires { IsBlank response.old }
+    ensures { OnOk result (IsNode format status node deed.now response.new) }
+{
+    match format {
+        Format::Json => show_number(alloc, status, node, response),
+        Format::Text => fill_text(response, status, node_deed(alloc, node, deed)?),
+    }
 }
 
 /// The holder of an identifier.
@@ -167,7 +221,7 @@ fn id_field(alloc: Global, id: Id) -> Result<HeaderValue, AllocError>
     }
 }
 
-/// Pairs, and the identifier to go on from.
+/// Pairs, who holds the first identifier, and the one to go on from.
 pub(crate) fn show_pairs(
     alloc: Global,
     page: &PairsPage,
@@ -176,12 +230,10 @@ pub(crate) fn show_pairs(
     requires { IsBlank response.old }
     ensures { OnOk result (IsPairs page.now response.new) }
 {
-    let text = pair_lines(alloc, &page.pairs)?;
-    fill(
-        response,
-        StatusCode::OK,
-        "application/x-ndjson",
-        Bytes::from_string(text)?,
+    fill_text(response, StatusCode::OK, pair_lines(alloc, &page.pairs)?)?;
+    response.add_header(
+        HeaderName::from_static("chord-page"),
+        HeaderValue::from_static(page.state.word()),
     )?;
     match page.next {
         Some(next) => response.add_header(
@@ -195,13 +247,13 @@ pub(crate) fn show_pairs(
 /// The server ends soon.
 pub(crate) fn show_stopping(response: &mut Response) -> Result<(), AllocError>
     requires { IsBlank response.old }
-    ensures { OnOk result (IsResponse 202 (typed text_type) (codes "stopping\n") response.new) }
+    ensures { OnOk result (IsResponse 202 (typed text_type) (codes "the server stops\n") response.new) }
 {
     fill(
         response,
         StatusCode::ACCEPTED,
         "text/plain; charset=utf-8",
-        Bytes::from_static(b"stopping\n"),
+        Bytes::from_static(b"the server stops\n"),
     )
 }
 
@@ -214,8 +266,15 @@ fn refused_value(alloc: Global, refusal: Refusal) -> Result<Value, AllocError>
     Ok(Value::Object(members))
 }
 
-// The name of a refusal as the body.
-fn fill_refused(alloc: Global, refusal: Refusal, response: &mut Response) -> Result<(), AllocError>
+fn refusal_line(alloc: Global, refusal: Refusal) -> Result<String, AllocError>
+    ensures { IfOk result (λ line. string_bytes line ≡ refusal_line refusal) }
+{
+    let name = refusal.name();
+    format!(in alloc; "refused {name}\n")
+}
+
+// The name of a refusal as JSON.
+fn fill_name(alloc: Global, refusal: Refusal, response: &mut Response) -> Result<(), AllocError>
     requires { IsBlank response.old }
     ensures { OnOk result (IsJson (refusal_status refusal) (refused refusal) response.new) }
 {
@@ -225,16 +284,33 @@ fn fill_refused(alloc: Global, refusal: Refusal, response: &mut Response) -> Res
     shown
 }
 
-/// Why the request is refused.
-pub(crate) fn refuse(
+// The name of a refusal as the body.
+fn fill_refused(
     alloc: Global,
+    format: Format,
     refusal: Refusal,
     response: &mut Response,
 ) -> Result<(), AllocError>
     requires { IsBlank response.old }
-    ensures { OnOk result (IsRefused refusal response.new) }
+    ensures { OnOk result (IsResponse (refusal_status refusal) (typed (type_in format)) (body_in format (refused refusal) (refusal_line refusal)) response.new) }
 {
-    fill_refused(alloc, refusal, response)?;
+    match format {
+        Format::Json => fill_name(alloc, refusal, response),
+        Format::Text => fill_text(response, refusal.status(), refusal_line(alloc, refusal)?),
+    }
+}
+
+/// Why the request is refused.
+pub(crate) fn refuse(
+    alloc: Global,
+    format: Format,
+    refusal: Refusal,
+    response: &mut Response,
+) -> Result<(), AllocError>
+    requires { IsBlank response.old }
+    ensures { OnOk result (IsRefused format refusal response.new) }
+{
+    fill_refused(alloc, format, refusal, response)?;
     match refusal {
         Refusal::WrongMethod(verb) => response.add_header(
             HeaderName::from_static("allow"),

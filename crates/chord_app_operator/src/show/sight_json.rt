@@ -6,11 +6,9 @@ ghost use Rattle.chord_app_operator.specs.Json.{with_members, span_members, serv
 
 use super::json::{ToJson, array, optional};
 use super::members::{counts_value, put_counts, put_id, put_word};
-use crate::sight::{
-    AskCounts, CallerCounts, EndCounts, HandoverCounts, NodeSight, OutboxSight, RingSight,
-    SegmentSight, SessionCounts,
-};
+use crate::sight::{CallerCounts, EndCounts, RingSight, SessionCounts, StoredNode};
 use chord_ident::Span;
+use chord_sight::{AskCounts, HandoverCounts, NodeSight, OutboxSight, SegmentSight};
 use serde_json::{Map, Value, put};
 use std::alloc::{AllocError, Global};
 
@@ -121,14 +119,14 @@ impl ToJson for CallerCounts {
 // Which node it is.
 fn put_name(
     alloc: Global,
-    node: &NodeSight,
+    node: &StoredNode,
     members: &mut Map<String, Value>,
 ) -> Result<(), AllocError>
     ensures { OnOk result (members_view members.new.entries ≡ with_members (members_view members.old.entries) (name_members node.now)) }
 {
-    put(members, alloc, "node", Value::from(node.node))?;
-    put_id(alloc, "id", node.id, members)?;
-    put_word(alloc, "phase", node.phase.word(), members)?;
+    put(members, alloc, "node", Value::from(node.sight.number))?;
+    put_id(alloc, "id", node.sight.id, members)?;
+    put_word(alloc, "phase", node.sight.phase.word(), members)?;
     put_word(alloc, "store", node.store.word(), members)
 }
 
@@ -171,20 +169,25 @@ fn put_done(
 ) -> Result<(), AllocError>
     ensures { OnOk result (members_view members.new.entries ≡ with_members (members_view members.old.entries) (done_members node.now)) }
 {
-    put(members, alloc, "asks", node.asks.to_json(alloc)?)?;
-    put(members, alloc, "handovers", node.handovers.to_json(alloc)?)?;
-    put(members, alloc, "ticks", Value::from(node.ticks))
+    put(members, alloc, "asks", node.counts.asks.to_json(alloc)?)?;
+    put(
+        members,
+        alloc,
+        "handovers",
+        node.counts.handovers.to_json(alloc)?,
+    )?;
+    put(members, alloc, "ticks", Value::from(node.counts.ticks))
 }
 
-impl ToJson for NodeSight {
+impl ToJson for StoredNode {
     ghost data_of = { node_data };
 
     fn to_json(&self, alloc: Global) -> Result<Value, AllocError> {
         let mut members = Map::new(alloc);
         put_name(alloc, self, &mut members)?;
-        put_links(alloc, self, &mut members)?;
-        put_held(alloc, self, &mut members)?;
-        put_done(alloc, self, &mut members)?;
+        put_links(alloc, &self.sight, &mut members)?;
+        put_held(alloc, &self.sight, &mut members)?;
+        put_done(alloc, &self.sight, &mut members)?;
         Ok(Value::Object(members))
     }
 }
@@ -199,6 +202,7 @@ fn put_server(
 {
     let sizes = [("successors", ring.successors), ("slots", ring.slots)];
     put_counts(alloc, &sizes, members)?;
+    put(members, alloc, "premise", Value::from(ring.premise))?;
     put(members, alloc, "callers", ring.callers.to_json(alloc)?)?;
     put_counts(alloc, &[("connections", ring.connections)], members)?;
     put(members, alloc, "ends", ring.ends.to_json(alloc)?)?;

@@ -1,7 +1,7 @@
 //! What an operator sees of a ring.
 
 use super::counts::CallerCounts;
-use super::node::NodeSight;
+use super::node::StoredNode;
 use super::traffic::{EndCounts, SessionCounts};
 
 /// A look at a ring: one at each node, one after another.
@@ -11,6 +11,9 @@ pub struct RingSight {
     pub successors: u64,
     /// How many nodes may ever be.
     pub slots: u64,
+    /// Whether the ring allowed each crash so far. Once it did not, only a new ring repairs itself
+    /// for sure.
+    pub premise: bool,
     pub callers: CallerCounts,
     /// How many clients are connected now.
     pub connections: u64,
@@ -18,5 +21,5 @@ pub struct RingSight {
     pub sessions: SessionCounts,
     /// How long the server has run, in milliseconds.
     pub uptime_ms: u64,
-    pub nodes: Vec<NodeSight>,
+    pub nodes: Vec<StoredNode>,
 }

@@ -11,13 +11,13 @@ use std::net::{Net, TcpListener, TcpStream};
 use std::sync::Wait;
 use std::time::Clock;
 
-/// What a server does that ends so. Callers are kept if there are three.
+/// What a server does that ends so.
 #[derive(Clone, Copy, Debug, PartialEq, Eq)]
 struct Shown {
     connections: u64,
     turns: u64,
     size: ReadSize,
-    kept: usize,
+    keeps_callers: bool,
     idle: Option<u64>,
     session: u64,
     is_stopped: bool,
@@ -28,7 +28,7 @@ fn show(until: Until<'_>) -> Shown {
         connections: until.most(),
         turns: until.turns(),
         size: until.read_size(),
-        kept: until.kept_callers(3),
+        keeps_callers: until.keeps_callers(),
         idle: until.idle(),
         session: until.session_seconds(),
         is_stopped: until.is_stopped(),
@@ -40,7 +40,7 @@ const SEVEN: Shown = Shown {
     connections: 7,
     turns: 65_536,
     size: ReadSize::Small,
-    kept: 0,
+    keeps_callers: false,
     idle: None,
     session: 600,
     is_stopped: false,
@@ -51,7 +51,7 @@ const STAYING: Shown = Shown {
     connections: u64::MAX,
     turns: u64::MAX,
     size: ReadSize::Large,
-    kept: 3,
+    keeps_callers: true,
     idle: Some(300),
     session: 60,
     is_stopped: false,
@@ -124,6 +124,7 @@ const ENDS: &[(Ended, &str, bool)] = &[
         true,
     ),
     (Ended::Served(Served::Protocol), "protocol", true),
+    (Ended::Served(Served::Foreign), "protocol", true),
     (Ended::Served(Served::Quit), "ended", true),
     (Ended::Served(Served::Read), "read", false),
     (Ended::Served(Served::Write), "write", false),

@@ -22,7 +22,10 @@ impl ReadLine for AskLine {
         if name != "ask" {
             return None;
         }
-        let request = found.get_strs("request")?.len();
+        let request = match found.get_strs("request") {
+            Some(words) => words.len(),
+            None => 0,
+        };
         let options = client_options_of(alloc, found).ok()?;
         Some(AskLine {
             port: options.port,
@@ -57,6 +60,24 @@ fn options_of_ask(rt: HostRuntime) {
     for line in PLAIN_LINES {
         let said = read_line::<AskLine>(rt.alloc(), *line);
         check!(&rt; said == Some(PLAIN), line);
+    }
+}
+
+/// Lines without a request, and how many are in flight: 16 where a copy is asked, and one in
+/// version 1.
+const WINDOWS: &[(&str, u64)] = &[
+    ("chord ask --port 7001", 1),
+    ("chord ask --port 7001 --quiet", 16),
+    ("chord ask --port 7001 --quiet --window 3", 3),
+    ("chord ask --port 7001 --quiet --protocol 1", 1),
+];
+
+#[test]
+fn windows_of_ask(rt: HostRuntime) {
+    for (line, window) in WINDOWS {
+        let said = read_line::<AskLine>(rt.alloc(), *line);
+        let is_its = said.is_some_and(|said| said.window == *window && said.request == 0);
+        check!(&rt; is_its, line);
     }
 }
 
@@ -105,6 +126,7 @@ const REFUSED: &[&str] = &[
     "chord ask --port 1 --protocol 1 --window 2",
     "chord ask insert a b",
     "chord ask --port 1 insert a -b",
+    "chord ask --port 1 --quiet --protocol 1 --window 2",
 ];
 
 #[test]

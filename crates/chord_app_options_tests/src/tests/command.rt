@@ -3,8 +3,7 @@
 use crate::checks::check;
 use chord_app_ring::RingFault;
 use chord_app_text::{
-    Fault, Finish, GrammarFault, Hex, InsertFault, LineFault, PairFault, ReplyText, WordFault,
-    Words,
+    Fault, Finish, GrammarFault, Hex, LineFault, ReplyText, Undone, WordFault, Words,
 };
 use chord_ident::Id;
 use chord_map::{Bytes, Reply, Values};
@@ -106,23 +105,24 @@ const TEXTS: &[(Fault, &str)] = &[
         "fault underway\npairs stay under way from one node to another; the copy ends before them",
     ),
     (
-        Fault::Pair {
-            line: 7,
-            why: PairFault::OtherId,
-        },
-        "fault line 7\nid is not the identifier of the key",
+        Fault::PassedOver,
+        "fault passed\nwhat was lost with a node is not in the copy",
     ),
     (
-        Fault::Insert {
+        Fault::Cut,
+        "fault cut\nthe last line does not tell how many pairs there are",
+    ),
+    (
+        Fault::Undone {
             line: 7,
-            why: InsertFault::SetFull,
+            why: Undone::SetFull,
         },
         "fault line 7\nsetfull: the key has 1000 values already",
     ),
     (
-        Fault::Insert {
+        Fault::Undone {
             line: 7,
-            why: InsertFault::Code(9),
+            why: Undone::Code(9),
         },
         "fault line 7\nfault 9 of the protocol",
     ),

@@ -133,7 +133,7 @@ const RETRIEVE: Talk = Talk {
 /// A look at all pairs, of which there are none.
 const PAGE: Talk = Talk {
     asked: b"GET /pairs?limit=1000 HTTP/1.1\r\n",
-    answer: b"HTTP/1.1 200 OK\r\ncontent-length: 0\r\n\r\n",
+    answer: b"HTTP/1.1 200 OK\r\ncontent-type: text/plain\r\nchord-page: held\r\ncontent-length: 0\r\n\r\n",
 };
 
 /// An open of a session that begins, up to its token. It is refused, as by a server that keeps
@@ -184,6 +184,8 @@ fn commands_without_a_server(rt: HostRuntime) {
     let nobody = Some(Err(Finish::Fault(Fault::Connect { port, reason })));
     let asked = start(&rt, &rt, "ask", port, "retrieve a");
     check!(&rt; asked == nobody, "ask finds nobody");
+    let asked = start(&rt, &rt, "ask", port, "--quiet");
+    check!(&rt; asked == nobody, "nor does it for a copy");
     let loaded = start(&rt, &rt, "load", port, "--requests 1");
     check!(&rt; loaded == nobody, "nor does load");
 }
@@ -194,6 +196,8 @@ const REFUSED: &[(&str, &str)] = &[
     ("ask", "--protocol 1 --window 2"),
     ("ask", "insert a"),
     ("ask", "add a x"),
+    ("ask", "--quiet insert a x"),
+    ("ask", "--quiet --window 17"),
     ("load", "--keys 0"),
     ("load", "--drop 5 --no-session"),
 ];

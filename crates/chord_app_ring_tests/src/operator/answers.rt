@@ -1,11 +1,12 @@
 //! Answers to what looks.
 
-use super::devices::ask;
+use super::devices::{ask, ask_with_fields};
 use super::operators::RingValue;
-use super::sights::{RING_JSON, RING_METRICS, ring};
+use super::sights::{RING_JSON, RING_METRICS, RING_TABLE, ring};
 use crate::checks::check;
 use chord_app_operator::{
-    Holder, PairsRequest, ToJson, array, holder_value, id_text, metrics_text, optional, ring_text,
+    Holder, PairsRequest, ToJson, array, holder_value, id_text, metrics_text, optional, ring_table,
+    ring_text,
 };
 use chord_ident::Id;
 use serde_json::Value;
@@ -22,6 +23,47 @@ fn a_ring_is_the_json_of_its_nodes(rt: HostRuntime) -> Result<(), Fail> {
     );
     check!(&rt; seen.ends(RING_JSON));
     check!(&rt; seen.asked(b"s"), "it looks once");
+    drop(seen);
+    Ok(())
+}
+
+/// A ring is a table where the first field `accept` is this type and nothing else.
+#[test]
+fn a_ring_is_the_table_of_its_nodes(rt: HostRuntime) -> Result<(), Fail> {
+    let seen = ask_with_fields(
+        &rt,
+        "GET /ring",
+        "Accept: text/plain\r\nAccept: text/html\r\n",
+    )?;
+    check!(&rt;
+        seen.begins(
+            "HTTP/1.1 200 OK\r\ncontent-type: text/plain; charset=utf-8\r\ncache-control: no-store\r\n"
+        )
+    );
+    check!(&rt; seen.ends(RING_TABLE));
+    check!(&rt; seen.asked(b"s"), "it looks once");
+    drop(seen);
+    for fields in [
+        "Accept: text/plain, */*\r\n",
+        "Accept: */*\r\nAccept: text/plain\r\n",
+    ] {
+        let seen = ask_with_fields(&rt, "GET /ring", fields)?;
+        let is_json = seen.ends(RING_JSON);
+        drop(seen);
+        check!(&rt; is_json, fields);
+    }
+    Ok(())
+}
+
+/// A refusal is a line there.
+#[test]
+fn a_refusal_is_a_line_of_text(rt: HostRuntime) -> Result<(), Fail> {
+    let seen = ask_with_fields(&rt, "GET /stop", "Accept: text/plain\r\n")?;
+    check!(&rt;
+        seen.got_text(
+            "HTTP/1.1 405 Method Not Allowed\r\ncontent-type: text/plain; charset=utf-8\r\ncache-control: no-store\r\nallow: POST\r\ncontent-length: 20\r\n\r\nrefused WrongMethod\n"
+        )
+    );
     drop(seen);
     Ok(())
 }
@@ -139,7 +181,7 @@ fn pairs_are_lines_and_the_next_identifier(rt: HostRuntime) -> Result<(), Fail> 
     )?;
     check!(&rt;
         seen.got_text(
-            "HTTP/1.1 200 OK\r\ncontent-type: application/x-ndjson\r\ncache-control: no-store\r\nchord-next: 000000000000000000000000000000ff\r\ncontent-length: 136\r\n\r\n{\"id\":\"00000000000000000000000000000001\",\"key\":\"616263\",\"value\":\"78\"}\n{\"id\":\"000000000000000000000000000000ff\",\"key\":\"\",\"value\":\"00ff\"}\n"
+            "HTTP/1.1 200 OK\r\ncontent-type: text/plain; charset=utf-8\r\ncache-control: no-store\r\nchord-page: held\r\nchord-next: 000000000000000000000000000000ff\r\ncontent-length: 39\r\n\r\ninsert x:616263 x:78\ninsert x:- x:00ff\n"
         )
     );
     let asked = PairsRequest {
@@ -205,8 +247,10 @@ fn texts_are_those_of_the_answers(rt: HostRuntime) -> Result<(), Fail> {
     let sight = ring(rt.alloc())?;
     let is_ring = is_text(ring_text(rt.alloc(), &sight), RING_JSON);
     let are_metrics = is_text(metrics_text(rt.alloc(), &sight), RING_METRICS);
+    let is_table = is_text(ring_table(rt.alloc(), &sight), RING_TABLE);
     drop(sight);
     check!(&rt; is_ring == Some(true));
     check!(&rt; are_metrics == Some(true));
+    check!(&rt; is_table == Some(true));
     Ok(())
 }

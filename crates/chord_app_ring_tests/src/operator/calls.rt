@@ -157,7 +157,7 @@ fn a_server_stops(rt: HostRuntime) -> Result<(), Fail> {
     let seen = ask(&rt, RingValue::new(rt.alloc()), "POST /stop", "")?;
     check!(&rt;
         seen.got_text(
-            "HTTP/1.1 202 Accepted\r\ncontent-type: text/plain; charset=utf-8\r\ncache-control: no-store\r\ncontent-length: 9\r\n\r\nstopping\n"
+            "HTTP/1.1 202 Accepted\r\ncontent-type: text/plain; charset=utf-8\r\ncache-control: no-store\r\ncontent-length: 17\r\n\r\nthe server stops\n"
         )
     );
     check!(&rt; seen.asked(b"t"));

@@ -2,8 +2,8 @@
 
 use super::sights::ring;
 use chord_app_operator::{
-    CrashRefusal, CrashRequest, Holder, JoinRefusal, JoinRequest, LeaveRefusal, Operator, Pair,
-    PairsPage, PairsRequest, RingSight,
+    CrashRefusal, CrashRequest, Holder, JoinRefusal, JoinRequest, LeaveRefusal, Operator,
+    PageState, Pair, PairsPage, PairsRequest, RingSight,
 };
 use chord_ident::Id;
 use std::alloc::{AllocError, Global};
@@ -55,18 +55,17 @@ impl RingValue {
 fn page(alloc: Global) -> Result<PairsPage, AllocError> {
     let mut pairs = Vec::new(alloc);
     pairs.push(Pair {
-        id: Id::new(1),
         key: b"abc".to_vec(alloc)?,
         value: b"x".to_vec(alloc)?,
     })?;
     pairs.push(Pair {
-        id: Id::new(255),
         key: Vec::new(alloc),
         value: b"\x00\xff".to_vec(alloc)?,
     })?;
     Ok(PairsPage {
         pairs,
         next: Some(Id::new(255)),
+        state: PageState::Held,
     })
 }
 

@@ -1,13 +1,12 @@
 //! Words, and what a request reads as.
 
-use super::sights::ring;
 use crate::checks::check;
 use bytes::Bytes;
 use chord_app_operator::{
-    CrashRefusal, Fault, JoinRefusal, JoinRequest, LeaveRefusal, Measure, OperatorCall, Pair,
-    PairsRequest, Phase, Refusal, Resource, RingSight, Site, StoreKind, Total, Verb, pair_lines,
+    CrashRefusal, Fault, JoinRefusal, JoinRequest, LeaveRefusal, OperatorCall, PageState, Pair,
+    PairsRequest, Refusal, Resource, Site, StoreKind, Verb, pair_lines,
 };
-use chord_ident::Id;
+use chord_sight::Phase;
 use http::Request;
 use serde_json::Value;
 use std::alloc::Global;
@@ -19,6 +18,9 @@ fn words_are_those_of_the_page(rt: HostRuntime) -> Result<(), Fail> {
     check!(&rt; StoreKind::Capped.word() == "capped");
     check!(&rt; StoreKind::of_word("list") == Some(StoreKind::List));
     check!(&rt; StoreKind::of_word("List").is_none());
+    check!(&rt; PageState::UnderWay.word() == "underway");
+    check!(&rt; PageState::of_word("lost") == Some(PageState::Lost));
+    check!(&rt; PageState::of_word("").is_none());
     check!(&rt; Verb::Look.allows("HEAD") && !Verb::Act.allows("GET"));
     check!(&rt; Verb::Act.allowed_text() == "POST");
     check!(&rt; Fault::BadVia.name() == "BadVia");
@@ -89,114 +91,16 @@ fn a_site_reads_calls(rt: HostRuntime) -> Result<(), Fail> {
 }
 
 #[test]
-fn measures_are_of_a_node(rt: HostRuntime) -> Result<(), Fail> {
-    let sight = ring(rt.alloc())?;
-    let told = match sight.nodes.first() {
-        Some(node) => Measure::Told.of(node),
-        None => 0,
-    };
-    drop(sight);
-    check!(&rt; told == 100);
-    check!(&rt; Measure::Taken.before_node() == "chord_handovers_total{node=\"");
-    check!(&rt; Measure::Taken.after_node() == "\",kind=\"taken\"} ");
-    Ok(())
-}
-
-/// What is counted of a server, its number in the ring of these tests, and the line of its metric
-/// up to the number.
-const TOTALS: &[(Total, u64, &str)] = &[
-    (
-        Total::Ended,
-        10,
-        "chord_connections_total{result=\"ended\"} ",
-    ),
-    (
-        Total::Truncated,
-        11,
-        "chord_connections_total{result=\"truncated\"} ",
-    ),
-    (
-        Total::Malformed,
-        12,
-        "chord_connections_total{result=\"malformed\"} ",
-    ),
-    (
-        Total::Protocol,
-        13,
-        "chord_connections_total{result=\"protocol\"} ",
-    ),
-    (Total::Read, 14, "chord_connections_total{result=\"read\"} "),
-    (
-        Total::Write,
-        15,
-        "chord_connections_total{result=\"write\"} ",
-    ),
-    (
-        Total::TurnsSpent,
-        16,
-        "chord_connections_total{result=\"turnsspent\"} ",
-    ),
-    (
-        Total::Memory,
-        17,
-        "chord_connections_total{result=\"memory\"} ",
-    ),
-    (
-        Total::CallersSpent,
-        18,
-        "chord_connections_total{result=\"callersspent\"} ",
-    ),
-    (Total::Idle, 19, "chord_connections_total{result=\"idle\"} "),
-    (Total::Kept, 20, "chord_sessions_kept "),
-    (
-        Total::Resumed,
-        21,
-        "chord_sessions_total{kind=\"resumed\"} ",
-    ),
-    (
-        Total::Dropped,
-        22,
-        "chord_sessions_total{kind=\"dropped\"} ",
-    ),
-    (
-        Total::Refused,
-        23,
-        "chord_sessions_total{kind=\"refused\"} ",
-    ),
-];
-
-/// What is counted otherwise, or has another line, if anything.
-fn first_wrong(sight: &RingSight) -> Option<Total> {
-    for (total, count, before) in TOTALS {
-        if total.of(sight) != *count || total.before_count() != *before {
-            return Some(*total);
-        }
-    }
-    None
-}
-
-#[test]
-fn totals_are_of_a_server(rt: HostRuntime) -> Result<(), Fail> {
-    let sight = ring(rt.alloc())?;
-    let wrong = first_wrong(&sight);
-    drop(sight);
-    assert!(rt; wrong == None, "{wrong:?}");
-    Ok(())
-}
-
-#[test]
 fn a_pair_is_a_line(rt: HostRuntime) -> Result<(), Fail> {
     let alloc = rt.alloc();
     let pairs = [Pair {
-        id: Id::new(2),
         key: b"k".to_vec(alloc)?,
         value: Vec::new(alloc),
     }];
     let text = pair_lines(alloc, &pairs);
     drop(pairs);
     let text = text?;
-    let is_line = text.as_str()
-        == "{\"id\":\"00000000000000000000000000000002\",\"key\":\"6b\",\"value\":\"\"}\n";
+    let is_line = text.as_str() == "insert x:6b x:-\n";
     drop(text);
     check!(&rt; is_line);
     Ok(())

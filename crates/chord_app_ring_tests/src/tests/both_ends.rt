@@ -1,174 +1,134 @@
 //! The command and the server's service together, with no network between.
 
-use super::answers::told;
-use super::operators::NotingOperator;
+use super::answers::says;
 use super::requests::{CRASH, FORCED_CRASH, PLAIN_JOIN, WHOLE_JOIN, bytes_of};
 use super::streams::MadeStream;
 use crate::checks::check;
-use chord_app_operator::{CrashRequest, OperatorService, PairsRequest};
+use crate::operator::devices::{Exchange, serve_bytes};
+use crate::operator::operators::RingValue;
+use crate::operator::sights::RING_TABLE;
+use chord_app_operator::{CrashRefusal, JoinRefusal, LeaveRefusal, PageState, PairsRequest};
 use chord_app_ring::{
-    Page, RingCommand, RingFault, Told, exchange_pairs, insert_of_line, page_of, pairs_bytes,
-    request_behind,
+    Page, RingCommand, RingFault, exchange_pairs, page_of, pairs_bytes, request_behind,
 };
 use chord_ident::Id;
-use chord_map::Request;
 use http1::{Client, Limits};
-use std::alloc::{AllocError, Global};
-use std::hash::RandomState;
+use std::alloc::Global;
 use std::test::Fail;
 
-/// What the server at port 7001 wrote, and its operator behind that.
-#[derive(Drop)]
-struct Served {
-    got: Vec<u8>,
-    operator: NotingOperator,
+/// An operator that does what it is asked for.
+fn willing(alloc: Global) -> RingValue {
+    RingValue::new(alloc)
 }
 
-/// Serves what is sent.
-fn serve_bytes(rt: &HostRuntime, sent: &[u8]) -> Result<Served, Fail> {
-    let alloc = rt.alloc();
-    let mut service = OperatorService::new(alloc, 7001, NotingOperator::new())?;
-    let mut got = Vec::new(alloc);
-    let served = serve_over(rt, &mut service, sent, &mut got);
-    let operator = service.into_operator();
-    match served {
-        Ok(()) => Ok(Served { got, operator }),
-        Err(fail) => {
-            drop(got);
-            Err(fail)
+/// One that refuses it.
+fn unwilling(alloc: Global) -> RingValue {
+    let mut operator = RingValue::new(alloc);
+    operator.joined = Err(JoinRefusal::NoSlot);
+    operator.leaves = Err(LeaveRefusal::NotStaying);
+    operator.crashes = Err(CrashRefusal::Unsafe);
+    operator.has_memory = false;
+    operator
+}
+
+/// Serves what is sent for the command.
+fn serve(rt: &HostRuntime, operator: RingValue, command: &RingCommand) -> Result<Exchange, Fail> {
+    match bytes_of(rt.alloc(), command) {
+        Ok(sent) => {
+            let served = serve_bytes(rt, operator, &sent);
+            drop(sent);
+            served
+        }
+        Err(refused) => {
+            drop(operator);
+            Err(Fail::from(refused))
         }
     }
 }
 
-/// Serves what is sent over one connection, and puts what its client gets into `got`.
-fn serve_over(
+/// Commands, the letter of what the operator is asked, and what the client is told by one that does
+/// it and by one that does not.
+const COMMANDS: &[(RingCommand, &[u8], &str, &str)] = &[
+    (
+        RingCommand::Show,
+        b"s",
+        RING_TABLE,
+        "refused: refused Memory\n",
+    ),
+    (
+        RingCommand::Join(PLAIN_JOIN),
+        b"j",
+        "node 4 joined\n",
+        "refused: refused NoSlot\n",
+    ),
+    (
+        RingCommand::Join(WHOLE_JOIN),
+        b"j",
+        "node 4 joined\n",
+        "refused: refused NoSlot\n",
+    ),
+    (
+        RingCommand::Leave(9_999_999_999),
+        b"l",
+        "node 9999999999 begins to leave\n",
+        "refused: refused NotStaying\n",
+    ),
+    (
+        RingCommand::Crash(CRASH),
+        b"c",
+        "node 7 crashed\n",
+        "refused: refused Unsafe\n",
+    ),
+    (
+        RingCommand::Crash(FORCED_CRASH),
+        b"c",
+        "node 7 crashed\n",
+        "refused: refused Unsafe\n",
+    ),
+    (
+        RingCommand::Stop,
+        b"t",
+        "the server stops\n",
+        "the server stops\n",
+    ),
+];
+
+/// Whether the operator was asked for what the command says.
+fn is_asked(command: &RingCommand, operator: &RingValue) -> bool {
+    match command {
+        RingCommand::Join(request) => operator.join == Some(*request),
+        RingCommand::Leave(node) => operator.left == Some(*node),
+        RingCommand::Crash(request) => operator.crash == Some(*request),
+        RingCommand::Show | RingCommand::Stop => true,
+    }
+}
+
+/// Whether the command asks this operator once for what it says, and the client is told this.
+fn comes_through(
     rt: &HostRuntime,
-    service: &mut OperatorService<NotingOperator>,
-    sent: &[u8],
-    got: &mut Vec<u8>,
-) -> Result<(), Fail> {
-    let mut reader = sent;
-    Ok(service.serve_connection(RandomState::new(rt)?, &mut reader, got)?)
-}
-
-/// What a client is told.
-#[derive(Clone, Copy, PartialEq, Eq)]
-enum Heard {
-    /// A ring of this many nodes.
-    Ring(usize),
-    Joined(u64),
-    Leaving(u64),
-    Crashed(u64),
-    Stopping,
-    /// The refusal of a leave.
-    NotStaying,
-    /// The refusal of a crash.
-    Unsafe,
-    Other,
-}
-
-/// What a client is told that gets this for its command.
-fn hear(alloc: Global, command: &RingCommand, got: &[u8]) -> Heard {
-    let told = told(alloc, command, got, 100);
-    let heard = match &told {
-        Ok(Told::Ring(ring)) => Heard::Ring(ring.nodes.len()),
-        Ok(Told::Joined(node)) => Heard::Joined(*node),
-        Ok(Told::Leaving(node)) => Heard::Leaving(*node),
-        Ok(Told::Crashed(node)) => Heard::Crashed(*node),
-        Ok(Told::Stopping) => Heard::Stopping,
-        Err(RingFault::Refused(name)) => refused_by(name),
-        Err(_) => Heard::Other,
-    };
-    drop(told);
-    heard
-}
-
-/// The refusal with this name.
-fn refused_by(name: &str) -> Heard {
-    match name {
-        "NotStaying" => Heard::NotStaying,
-        "Unsafe" => Heard::Unsafe,
-        _ => Heard::Other,
-    }
-}
-
-/// What the operator was asked for, and what the client heard then.
-#[derive(Clone, Copy)]
-struct Exchange {
-    operator: NotingOperator,
-    heard: Heard,
-}
-
-/// Serves what is sent for the command.
-fn ask(rt: &HostRuntime, command: &RingCommand) -> Result<Exchange, Fail> {
-    let sent = bytes_of(rt.alloc(), command)?;
-    let served = serve_bytes(rt, &sent);
-    drop(sent);
-    let Served { got, operator } = served?;
-    let heard = hear(rt.alloc(), command, &got);
-    drop(got);
-    Ok(Exchange { operator, heard })
+    operator: RingValue,
+    row: (&RingCommand, &[u8]),
+    wanted: &str,
+) -> Result<bool, Fail> {
+    let (command, letter) = row;
+    let served = serve(rt, operator, command)?;
+    let is_asked = served.asked(letter) && is_asked(command, &served.operator);
+    let is_told = says(rt.alloc(), command, &served.got, 100, wanted);
+    drop(served);
+    Ok(is_asked && is_told)
 }
 
 #[test]
-fn a_join_comes_through(rt: HostRuntime) -> Result<(), Fail> {
-    for request in [PLAIN_JOIN, WHOLE_JOIN] {
-        let seen = ask(&rt, &RingCommand::Join(request))?;
-        check!(&rt; seen.operator.join == Some(request));
-        check!(&rt; seen.heard == Heard::Joined(4));
+fn commands_come_through(rt: HostRuntime) -> Result<(), Fail> {
+    for (command, letter, done, refused) in COMMANDS {
+        let row = (command, *letter);
+        check!(&rt; comes_through(&rt, willing(rt.alloc()), row, done)?, done);
+        check!(&rt; comes_through(&rt, unwilling(rt.alloc()), row, refused)?, refused);
     }
     Ok(())
 }
 
-#[test]
-fn a_leave_comes_through(rt: HostRuntime) -> Result<(), Fail> {
-    for (node, heard) in [
-        (2, Heard::Leaving(2)),
-        (3, Heard::NotStaying),
-        (9_999_999_999, Heard::Leaving(9_999_999_999)),
-    ] {
-        let seen = ask(&rt, &RingCommand::Leave(node))?;
-        check!(&rt; seen.operator.left == Some(node));
-        check!(&rt; seen.heard == heard);
-    }
-    Ok(())
-}
-
-#[test]
-fn a_crash_comes_through(rt: HostRuntime) -> Result<(), Fail> {
-    let unforced = CrashRequest {
-        node: 2,
-        is_forced: false,
-    };
-    for (request, heard) in [
-        (CRASH, Heard::Crashed(7)),
-        (FORCED_CRASH, Heard::Crashed(7)),
-        (unforced, Heard::Unsafe),
-    ] {
-        let seen = ask(&rt, &RingCommand::Crash(request))?;
-        check!(&rt; seen.operator.crash == Some(request));
-        check!(&rt; seen.heard == heard);
-    }
-    Ok(())
-}
-
-#[test]
-fn a_look_and_a_stop_come_through(rt: HostRuntime) -> Result<(), Fail> {
-    let seen = ask(&rt, &RingCommand::Show)?;
-    check!(&rt; seen.heard == Heard::Ring(4));
-    let seen = ask(&rt, &RingCommand::Stop)?;
-    check!(&rt; seen.operator.is_stopped);
-    check!(&rt; seen.heard == Heard::Stopping);
-    Ok(())
-}
-
-/// What is sent for a page.
-fn page_bytes_of(alloc: Global, request: PairsRequest) -> Result<Vec<u8>, AllocError> {
-    let mut client = Client::new(Limits::default());
-    pairs_bytes(alloc, &mut client, 7001, request)
-}
-
-/// The page that a client gets.
+/// The page that a client gets of the pairs of a willing operator.
 fn page_in(alloc: Global, request: PairsRequest, got: &[u8]) -> Result<Page, RingFault> {
     let mut stream = MadeStream::new(alloc, got, 100);
     let answer = exchange_pairs(alloc, &mut stream, 7001, request);
@@ -176,53 +136,39 @@ fn page_in(alloc: Global, request: PairsRequest, got: &[u8]) -> Result<Page, Rin
     page_of(answer?)
 }
 
-/// Whether the line is the insert of `x` under `a`.
-fn inserts_x(alloc: Global, line: &[u8]) -> bool {
-    let read = insert_of_line(alloc, line);
-    let is_its = matches!(
-        &read,
-        Ok(Request::Insert { key, value })
-            if key.as_slice() == b"a".as_slice() && value.as_slice() == b"x".as_slice()
-    );
-    drop(read);
-    is_its
-}
-
-/// What the operator was asked for, and what the page is that the client got.
-#[derive(Clone, Copy)]
-struct PageSeen {
-    asked: Option<PairsRequest>,
-    next: Option<Id>,
-    inserts_x: bool,
-}
-
-/// Asks for a page.
-fn ask_page(rt: &HostRuntime, request: PairsRequest) -> Result<PageSeen, Fail> {
-    let sent = page_bytes_of(rt.alloc(), request)?;
-    let served = serve_bytes(rt, &sent);
+/// Serves what is sent for a page.
+fn serve_page(rt: &HostRuntime, request: PairsRequest) -> Result<Exchange, Fail> {
+    let mut client = Client::new(Limits::default());
+    let sent = pairs_bytes(rt.alloc(), &mut client, 7001, request)?;
+    let served = serve_bytes(rt, willing(rt.alloc()), &sent);
     drop(sent);
-    let Served { got, operator } = served?;
-    let page = page_in(rt.alloc(), request, &got);
-    drop(got);
-    let page = page?;
-    let seen = PageSeen {
-        asked: operator.pairs,
-        next: page.next,
-        inserts_x: inserts_x(rt.alloc(), &page.lines),
+    served
+}
+
+/// Whether the page is that of the operator.
+fn is_page(page: Result<Page, RingFault>) -> bool {
+    let is_page = match &page {
+        Ok(page) => {
+            page.lines.as_slice() == b"insert x:616263 x:78\ninsert x:- x:00ff\n".as_slice()
+                && page.state == PageState::Held
+                && page.next == Some(Id::new(255))
+        }
+        Err(_) => false,
     };
     drop(page);
-    Ok(seen)
+    is_page
 }
 
 #[test]
 fn a_page_comes_through(rt: HostRuntime) -> Result<(), Fail> {
-    let a = Id::of_bytes(b"a");
-    for after in [None, Some(Id { number: 7 }), Some(a)] {
+    for after in [None, Some(Id { number: 7 }), Some(Id { number: 254 })] {
         let request = request_behind(after);
-        let seen = ask_page(&rt, request)?;
-        check!(&rt; seen.asked == Some(request));
-        check!(&rt; seen.next == Some(a));
-        check!(&rt; seen.inserts_x);
+        let served = serve_page(&rt, request)?;
+        let is_asked = served.operator.pairs == Some(request);
+        let page = page_in(rt.alloc(), request, &served.got);
+        drop(served);
+        check!(&rt; is_asked);
+        check!(&rt; is_page(page));
     }
     Ok(())
 }

@@ -1,6 +1,6 @@
 //! A command at a scripted server over loopback. Neither waits for the other once that has ended.
 
-use chord_app_ring::{RingCommand, RingLine, run_dump, run_restore, run_ring};
+use chord_app_ring::{RingCommand, RingLine, run_dump, run_ring};
 use chord_app_text::{Fault, Finish};
 use std::alloc::Global;
 use std::io::{self, ErrorKind, Read, Write};
@@ -12,12 +12,10 @@ use std::time::Clock;
 
 /// A command of an operator.
 #[derive(Clone, Copy)]
-pub enum Command<'a> {
+pub enum Command {
     /// This one, done this often.
     Ask(RingCommand, u64),
     Dump,
-    /// These lines are restored.
-    Restore(&'a str),
 }
 
 /// What a client must send first, and what it is answered.
@@ -51,7 +49,7 @@ fn answer_all(alloc: Global, listener: TcpListener, talks: &[Talk<'_>]) -> io::R
     Ok(true)
 }
 
-impl Command<'_> {
+impl Command {
     /// Does it at a port, where it is to write these lines and these errors.
     fn run<R: Net<Stream = TcpStream> + Clock + Wait>(
         self,
@@ -72,10 +70,6 @@ impl Command<'_> {
                 run_ring(rt, alloc, &line, &mut written, &mut errors)
             }
             Command::Dump => run_dump(rt, alloc, port, &mut written, &mut errors),
-            Command::Restore(lines) => {
-                let mut input = lines.as_bytes();
-                run_restore(rt, alloc, port, &mut input, &mut written)
-            }
         };
         let is_written = written.as_slice() == wanted.as_bytes();
         let is_told = errors.as_slice() == told.as_bytes();

@@ -1,10 +1,9 @@
 //! A ring of two nodes, one of which gives the other a part of what it holds, and one that crashed.
 
 use crate::samples::{empty_node, empty_ring, filled, peopled};
-use chord_app_operator::{
-    AskCounts, HandoverCounts, NodeSight, OutboxSight, Phase, RingSight, SegmentSight, StoreKind,
-};
+use chord_app_operator::{RingSight, StoreKind, StoredNode};
 use chord_ident::{Id, Span};
+use chord_sight::{AskCounts, HandoverCounts, NodeSight, OutboxSight, Phase, SegmentSight};
 use std::alloc::{AllocError, Global};
 
 /// A quarter of the circle.
@@ -34,24 +33,24 @@ fn fill_giving(node: &mut NodeSight) -> Result<(), AllocError> {
     Ok(())
 }
 
-fn giving(alloc: Global) -> Result<NodeSight, AllocError> {
+fn giving(alloc: Global) -> Result<StoredNode, AllocError> {
     let mut node = empty_node(alloc, 0, QUARTER, Phase::Staying);
-    node.predecessor = Some(1);
-    node.fingers = 7;
-    node.pairs = 1234;
-    node.asks = AskCounts {
+    node.sight.predecessor = Some(1);
+    node.sight.fingers = 7;
+    node.sight.pairs = 1234;
+    node.sight.counts.asks = AskCounts {
         told: 100,
         forwarded: 3,
         dropped: 2,
         full: 1,
     };
-    node.handovers = HandoverCounts {
+    node.sight.counts.handovers = HandoverCounts {
         given: 1,
         taken: 2,
         declined: 5,
     };
-    node.ticks = u64::MAX;
-    filled(fill_giving(&mut node), node)
+    node.sight.counts.ticks = u64::MAX;
+    filled(fill_giving(&mut node.sight), node)
 }
 
 /// Puts in the segments of the node that leaves.
@@ -68,21 +67,21 @@ fn fill_leaving(node: &mut NodeSight) -> Result<(), AllocError> {
     )
 }
 
-fn leaving(alloc: Global) -> Result<NodeSight, AllocError> {
+fn leaving(alloc: Global) -> Result<StoredNode, AllocError> {
     let mut node = empty_node(alloc, 1, 2 * QUARTER, Phase::Leaving);
     node.store = StoreKind::List;
-    filled(fill_leaving(&mut node), node)
+    filled(fill_leaving(&mut node.sight), node)
 }
 
 /// A node that crashed.
-fn crashed(alloc: Global) -> NodeSight {
+fn crashed(alloc: Global) -> StoredNode {
     let mut node = empty_node(alloc, 2, u128::MAX, Phase::Crashed);
     node.store = StoreKind::Capped;
     node
 }
 
 /// Puts in all nodes.
-fn put_nodes(alloc: Global, nodes: &mut Vec<NodeSight>) -> Result<(), AllocError> {
+fn put_nodes(alloc: Global, nodes: &mut Vec<StoredNode>) -> Result<(), AllocError> {
     nodes.push(giving(alloc)?)?;
     nodes.push(leaving(alloc)?)?;
     nodes.push(crashed(alloc))?;

@@ -2,8 +2,9 @@
 
 use super::sights::{QUARTER, ring, span};
 use crate::checks::check;
-use chord_app_operator::SegmentSight;
-use chord_app_ring::{RingTable, Stretch, hundredths};
+use crate::samples::empty_ring;
+use chord_app_operator::{Stretch, hundredths, ring_table};
+use chord_sight::SegmentSight;
 use std::test::Fail;
 
 /// The table of the ring of these tests.
@@ -19,10 +20,30 @@ const TABLE: &str = concat!(
 #[test]
 fn the_table_of_a_ring(rt: HostRuntime) -> Result<(), Fail> {
     let sight = ring(rt.alloc())?;
-    let text = RingTable(&sight).to_string(rt.alloc());
+    let text = ring_table(rt.alloc(), &sight);
     drop(sight);
     let text = text?;
     let is_table = text.as_str() == TABLE;
+    drop(text);
+    check!(&rt; is_table);
+    Ok(())
+}
+
+/// The table of a ring without nodes, whose operator forced a crash.
+const FORCED: &str = concat!(
+    "up 12 s, 0 of 16 slots used, 4 successors, 5 connections, 3 of 64 callers open\n",
+    "a crash was forced that the ring did not allow: start a new ring\n",
+    "node  identifier                        phase      share      pairs  segments  outbox\n",
+);
+
+#[test]
+fn a_forced_crash_is_told(rt: HostRuntime) -> Result<(), Fail> {
+    let mut sight = empty_ring(rt.alloc());
+    sight.premise = false;
+    let text = ring_table(rt.alloc(), &sight);
+    drop(sight);
+    let text = text?;
+    let is_table = text.as_str() == FORCED;
     drop(text);
     check!(&rt; is_table);
     Ok(())

@@ -6,5 +6,5 @@ pub returns : goal.returns
 returns g c = (
   c.pairs-told.result,
   c.pairs-told.ensures,
-  shown_or_full c.show_told_pairs-shown.result (ShowsPairs c.pairs-told.result) c.show_told_pairs-shown.new.response c.or_full.new.response c.show_told_pairs-shown.ensures c.or_full.ensures.ok c.or_full.ensures.err,
+  shown_or_full c.show_told_pairs-shown.result (ShowsPairs c.args.format c.pairs-told.result) c.show_told_pairs-shown.new.response c.or_full.new.response c.show_told_pairs-shown.ensures c.or_full.ensures.ok c.or_full.ensures.err,
 )

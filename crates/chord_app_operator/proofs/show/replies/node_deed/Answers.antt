@@ -1,0 +1,5 @@
+use Rattle.std.proofs.Common.{append_assoc}
+use Rattle.chord_app_operator.proofs.show.replies.node_deed.Goals as goal
+
+pub returns : goal.returns
+returns c = simp append_assoc (search (c.format.ensures.ok))

@@ -1,0 +1,73 @@
+//! The numbers of a ring and its server.
+ghost use Rattle.std.specs.Prelude.{◌≡◌};
+ghost use Rattle.std.specs.List.{count_by};
+ghost use Rattle.chord_app_operator.specs.Metrics.{is_in, ring_count};
+
+use crate::sight::{RingSight, StoredNode};
+use chord_sight::Phase;
+
+/// A number of a ring or of its server.
+#[derive(Clone, Copy, Debug, PartialEq, Eq)]
+pub enum RingCount {
+    /// The nodes in this phase.
+    Nodes(Phase),
+    /// 1 as long as the ring allowed each crash.
+    Premise,
+    Connections,
+    CallersOpen,
+    Ended,
+    Truncated,
+    Malformed,
+    Protocol,
+    Read,
+    Write,
+    TurnsSpent,
+    Memory,
+    CallersSpent,
+    Idle,
+    Kept,
+    Resumed,
+    Dropped,
+    Refused,
+}
+
+// How many nodes are in the phase.
+fn count_in(phase: Phase, nodes: &[StoredNode]) -> u64
+    ensures { result ≡ count_by (is_in phase) nodes.now }
+{
+    let mut count = 0u64;
+    for node in nodes {
+        if node.sight.phase == phase {
+            count += 1;
+        }
+    }
+    count
+}
+
+impl RingCount {
+    /// The number.
+    pub fn of(self, ring: &RingSight) -> u64
+        ensures { result ≡ ring_count self ring.now }
+    {
+        match self {
+            RingCount::Nodes(phase) => count_in(phase, &ring.nodes),
+            RingCount::Premise => u64::from(ring.premise),
+            RingCount::Connections => ring.connections,
+            RingCount::CallersOpen => ring.callers.open,
+            RingCount::Ended => ring.ends.ended,
+            RingCount::Truncated => ring.ends.truncated,
+            RingCount::Malformed => ring.ends.malformed,
+            RingCount::Protocol => ring.ends.protocol,
+            RingCount::Read => ring.ends.read,
+            RingCount::Write => ring.ends.write,
+            RingCount::TurnsSpent => ring.ends.turns_spent,
+            RingCount::Memory => ring.ends.memory,
+            RingCount::CallersSpent => ring.ends.callers_spent,
+            RingCount::Idle => ring.ends.idle,
+            RingCount::Kept => ring.sessions.kept,
+            RingCount::Resumed => ring.sessions.resumed,
+            RingCount::Dropped => ring.sessions.dropped,
+            RingCount::Refused => ring.sessions.refused,
+        }
+    }
+}
