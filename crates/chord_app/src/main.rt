@@ -19,6 +19,7 @@ use chord_app_world::{empty_ones, world};
 use chord_store::{CappedStore, EntryStore, ListStore, NotedStore};
 use chord_tree_store::TreeStore;
 use clap::ArgMatches;
+use log::{Level, Logged};
 use std::hash::RandomState;
 use std::net::{Net, TcpListener, TcpStream};
 use std::process::ExitCode;
@@ -76,7 +77,7 @@ struct ServeOptions<'a> {
     seconds: ClientSeconds,
     /// Where it serves operators, if it does.
     operator: Option<OperatorDoor>,
-    notes: Option<&'a HostRuntime>,
+    notes: Logged<&'a HostRuntime, &'a HostRuntime>,
 }
 
 impl ServeOptions<'_> {
@@ -248,6 +249,8 @@ fn start_serve<T: Host>(
     let frames = listen_at(threads, line.port)?;
     let redis = listen_at(threads, line.redis)?;
     let operator = OperatorDoor::at(rt, threads, line.operator)?;
+    // A warning is written without `--notes` too.
+    let level = if line.notes { Level::Info } else { Level::Warn };
     let options = ServeOptions {
         frames,
         redis,
@@ -257,7 +260,7 @@ fn start_serve<T: Host>(
             keep: line.keep,
         },
         operator,
-        notes: if line.notes { Some(rt) } else { None },
+        notes: Logged::new(rt, level, rt),
     };
     let settings = plan.settings_with(line.slots, line.callers);
     let ended = start_with_stores(rt, threads, &plan, settings, Some(&options));

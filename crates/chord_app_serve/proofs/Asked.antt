@@ -8,7 +8,7 @@ use Rattle.std.proofs.lemmas.Option.{none-some, same_Some, slice_get-map}
 use Rattle.chord_app_serve.specs.Answered.{TellsCall, TellsReply, TellsRetry, told_of_wait}
 use Rattle.chord_app_serve.specs.Asked.{asked_by, asked_since}
 use Rattle.chord_caller.proofs.Places.{got_last}
-use Rattle.chord_caller.specs.Caller.{Caller, Submission, request_for_reply, fresh_for, is_taken, next_number, submission_at, with_request}
+use Rattle.chord_caller.specs.Caller.{Caller, Submission, request_for_reply, fresh_for, is_settled, next_number, submission_at, with_request}
 use Rattle.chord_caller.specs.declared.told.Told.{Told}
 use Rattle.chord_live_steps.specs.Asking.{CallIs, RetryIs, SubmittedAndEnded}
 use Rattle.chord_live_steps.specs.Ending.{AwaitIs, TookReply, told_to}
@@ -75,7 +75,7 @@ pub fresh_kind : (told : Told) (caller : Caller) (request : Request) → fresh_f
     → (s : Submission) × (submission_at told.number caller.submitted ≡ Some s) × (fits told.reply s.request ≡ true) × (s.request ≡ request)
 unfolding fresh_for
 fresh_kind told caller request e =
-    let test : Bool = eqb told.caller caller.number && not (is_taken caller told.number) in
+    let test : Bool = eqb told.caller caller.number && not (is_settled caller told.number) in
     let found : Option Request = request_for_reply told.reply (submission_at told.number caller.submitted) in
     by_test test
     (λ t. fitting_kind told.reply (submission_at told.number caller.submitted) request (sym (cond-true test found None t) ∙ e))
@@ -120,9 +120,9 @@ kind_of_retry number (Err retry.NoSuchNode) answer old new is told = kind_of_wai
 kind_of_retry number (Err retry.Idle) answer old new is told = kind_of_wait wait.NoAnswer answer (request_at number (asked_by old)) told
 
 -- no request joins those of the session, and what is told is of the kind of the request
-pub heard_again : (before number : ℕ) (ended : Result Reply RetryFault) (answer : Asked) (old new : CallerSight) → RetryIs AwaitIs (before + number) old ended new → TellsRetry ended answer
-    → IsHeard (Retry number) answer (asked_since before old) (asked_since before new)
-heard_again before number ended answer old new is told = record {
+pub heard_again : (before number floor : ℕ) (ended : Result Reply RetryFault) (answer : Asked) (old new : CallerSight) → RetryIs AwaitIs (before + number) old ended new → TellsRetry ended answer
+    → IsHeard (Retry number floor) answer (asked_since before old) (asked_since before new)
+heard_again before number floor ended answer old new is told = record {
   notes = λ other. ap (λ (submitted : List Submission). drop before (map (λ (s : Submission). s.request) submitted)) (submits_none (before + number) ended old new is);
   kind = kind_behind before number answer (asked_by old) (kind_of_retry (before + number) ended answer old new is told);
 }
@@ -163,21 +163,28 @@ joins before request old new begun is =
     ∙ drop-append-le before (asked_by old) (request ∷ []) (omega (arith, begun, as_many))
 
 -- where it is told that memory is out, nothing has to be said of the requests
-pub heard_nothing : (request : Request) (answer : Asked) (before after : List Request) → answer ≡ asked.Memory → IsHeard (Ask request) answer before after
-heard_nothing request answer before after told = record {
+pub heard_nothing : (request : Request) (floor : ℕ) (answer : Asked) (before after : List Request) → answer ≡ asked.Memory → IsHeard (Ask request floor) answer before after
+heard_nothing request floor answer before after told = record {
   notes = λ other. absurd (other told);
   kind = kind_of_wait wait.Memory answer (Some request) told;
 }
 
+-- where no request can have the number nothing is asked
+pub heard_no_number : (number floor : ℕ) (before after : List Request) → after ≡ before → IsHeard (Retry number floor) asked.NoAnswer before after
+heard_no_number number floor before after same = record {
+  notes = λ other. same;
+  kind = kind_of_wait wait.NoAnswer asked.NoAnswer (request_at number before) refl;
+}
+
 -- the request joins those of the session, and what is told is of its kind
-pub heard_first : (before : ℕ) (request : Request) (ended : Result Reply AskFault) (answer : Asked) (old new : CallerSight) → before ≤ length old.caller.submitted → CallIs AwaitIs request old ended new → TellsCall ended answer
-    → IsHeard (Ask request) answer (asked_since before old) (asked_since before new)
-heard_first before request (Ok reply) answer old new begun (between, submitted, ends) told = record {
+pub heard_first : (before : ℕ) (request : Request) (floor : ℕ) (ended : Result Reply AskFault) (answer : Asked) (old new : CallerSight) → before ≤ length old.caller.submitted → CallIs AwaitIs request old ended new → TellsCall ended answer
+    → IsHeard (Ask request floor) answer (asked_since before old) (asked_since before new)
+heard_first before request floor (Ok reply) answer old new begun (between, submitted, ends) told = record {
   notes = λ other. joins before request old new begun (submits_one request (Ok reply) old new (between, submitted, ends));
   kind = let (of, fresh, is) = ends.change in kind_of reply answer (Some request) told (fits_last request of reply old.caller between.caller (submitted.begun).4 fresh);
 }
-heard_first before request (Err (ask.Wait fault)) answer old new begun called told = record {
+heard_first before request floor (Err (ask.Wait fault)) answer old new begun called told = record {
   notes = λ other. joins before request old new begun (submits_one request (Err fault) old new called);
   kind = kind_of_wait fault answer (Some request) told;
 }
-heard_first before request (Err (ask.Begin fault)) answer old new begun called told = heard_nothing request answer (asked_since before old) (asked_since before new) told
+heard_first before request floor (Err (ask.Begin fault)) answer old new begun called told = heard_nothing request floor answer (asked_since before old) (asked_since before new) told

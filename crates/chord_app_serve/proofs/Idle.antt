@@ -6,13 +6,13 @@ use Rattle.std.proofs.Math.ListN.{drop_of_length-le}
 use Rattle.std.specs.Prelude.{is_some}
 use Rattle.chord_app_serve.specs.Asked.{asked_by, asked_since}
 use Rattle.chord_caller.specs.Answers.{is_pending}
-use Rattle.chord_caller.specs.Caller.{Caller, Submission, submission_at, floor_of, floor_upto, is_taken}
+use Rattle.chord_caller.specs.Caller.{Caller, Submission, submission_at, floor_of, floor_upto, is_settled}
 use Rattle.chord_caller.proofs.Waiting.{got_within}
 use Rattle.chord_table.specs.Views.{CallerSight}
 
--- a submitted request that is not pending is taken
-taken_if_idle : (caller : Caller) (place : ℕ) → place < length caller.submitted → is_pending (suc place) caller ≡ false → is_taken caller (suc place) ≡ true
-taken_if_idle caller place within idle =
+-- a submitted request that is not pending is settled
+settled_if_idle : (caller : Caller) (place : ℕ) → place < length caller.submitted → is_pending (suc place) caller ≡ false → is_settled caller (suc place) ≡ true
+settled_if_idle caller place within idle =
     let there : is_some (submission_at (suc place) caller.submitted) ≡ true = got_within caller.submitted place within in
     grind (arith, there, idle)
 
@@ -21,8 +21,8 @@ unfolding floor_upto
 all_upto caller idle zero within = refl
 all_upto caller idle (suc n) within =
     let below : floor_upto caller n ≡ n = all_upto caller idle n (omega (arith, within)) in
-    let taken : is_taken caller (suc n) ≡ true = taken_if_idle caller n (omega (arith, within)) (idle (suc n)) in
-    grind (arith, below, taken)
+    let settled : is_settled caller (suc n) ≡ true = settled_if_idle caller n (omega (arith, within)) (idle (suc n)) in
+    grind (arith, below, settled)
 
 -- the floor of an idle caller is how many requests it submitted
 pub idle_floor : (caller : Caller) → ((number : ℕ) → is_pending number caller ≡ false) → floor_of caller ≡ length caller.submitted

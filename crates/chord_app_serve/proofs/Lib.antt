@@ -1,6 +1,7 @@
 pub mod Asked
 pub mod Gaps
 pub mod Idle
-pub mod Pending
+pub mod Losses
+pub mod Settling
 pub mod Showing
 pub mod Together

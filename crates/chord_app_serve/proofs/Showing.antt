@@ -2,7 +2,7 @@
 use Rattle.std.proofs.Common.{◌≡◌, ℕ, ◌+◌, [], ◌∷◌, ◌++◌, List, length, Some, slice_get, ⊎_elim, subst, sym, ap, ◌∙◌}
 use Rattle.std.proofs.lemmas.List.{length_push}
 use Rattle.chord_app_operator.specs.declared.request.store_kind.StoreKind.{StoreKind}
-use Rattle.chord_app_operator.specs.declared.sight.node.NodeSight.{NodeSight}
+use Rattle.chord_app_operator.specs.declared.sight.node.StoredNode.{StoredNode}
 use Rattle.chord_app_serve.specs.Shown.{AreShown, IsShownAs}
 use Rattle.chord_caller.proofs.Places.{got_pushed}
 
@@ -10,7 +10,7 @@ pub counted_more : {A : Type 0} (xs : List A) (x : A) {new : List A} {number : �
 counted_more xs x is counted = ap length is ∙ (length_push xs x ∙ ap (λ n. n + 1) counted)
 
 -- behind nodes that are shown comes the next one
-pub shown_more : (stores : ℕ → StoreKind) (nodes : List NodeSight) (node : NodeSight) (number : ℕ) → length nodes ≡ number → AreShown stores nodes
+pub shown_more : (stores : ℕ → StoreKind) (nodes : List StoredNode) (node : StoredNode) (number : ℕ) → length nodes ≡ number → AreShown stores nodes
     → IsShownAs number (stores number) node → AreShown stores (nodes ++ node ∷ [])
 shown_more stores nodes node number counted before shown k found is =
     ⊎_elim (λ old. before k found old)

@@ -1,6 +1,7 @@
 -- What a session is told by a caller of a ring: how the caller's call ended. Source: our own.
-use Rattle.std.specs.Prelude.{◌≡◌, ◌⊎◌, ℕ, ◌+◌, ◌^◌, ◌≤◌, Result, Ok, Err}
-use Rattle.chord_live_steps.specs.Asking.{CallIs, RetryIs}
+use Rattle.std.specs.Prelude.{◌≡◌, ◌⊎◌, ℕ, ◌+◌, ◌^◌, ◌<◌, ◌≤◌, false, Result, Ok, Err}
+use Rattle.chord_caller.specs.Answers.{is_pending}
+use Rattle.chord_live_steps.specs.Asking.{CallIs, GaveUpSome, RetryIs}
 use Rattle.chord_live_steps.specs.Ending.{AwaitIs}
 use Rattle.chord_live_types.specs.declared.caller.AskFault.{AskFault}
 use Rattle.chord_live_types.specs.declared.caller.AskFault.TheVariants as ask
@@ -58,11 +59,18 @@ RetriedBy number old answer new =
     ((ended : Result Reply RetryFault) × RetryIs AwaitIs number old ended new × TellsRetry ended answer)
     ⊎ ((answer ≡ asked.NoAnswer) × (2 ^ 64 ≤ number) × (new ≡ old))
 
+-- the caller's requests up to this number that were pending are given up, and no other is
+pub record SettlesTo (floor : ℕ) (old new : CallerSight) : Type 0 where
+  pub given : GaveUpSome old new
+  pub below : (number : ℕ) → number ≤ floor → is_pending number new.caller ≡ false
+  pub above : (number : ℕ) → floor < number → is_pending number new.caller ≡ is_pending number old.caller
+
 -- How a question of a session was answered by a caller that had submitted `before` requests when
--- the session began: the session's request of a number is the caller's of that many more.
+-- the session began: the session's request of a number is the caller's of that many more. First the
+-- requests up to the floor are settled.
 abbrev pub AnsweredBy : ℕ → Question → CallerSight → Asked → CallerSight → Type 0
-AnsweredBy before (Ask request) old answer new = AskedBy request old answer new
-AnsweredBy before (Retry number) old answer new = RetriedBy (before + number) old answer new
+AnsweredBy before (Ask request floor) old answer new = (settled : CallerSight) × SettlesTo (before + floor) old settled × AskedBy request settled answer new
+AnsweredBy before (Retry number floor) old answer new = (settled : CallerSight) × SettlesTo (before + floor) old settled × RetriedBy (before + number) settled answer new
 
 -- how the asker of a session answers a question: what every asker promises, by one call of its
 -- caller, at the same node

@@ -1,7 +1,6 @@
 -- The requests of a session, as its caller submitted them.
-use Rattle.std.specs.Prelude.{ℕ, zero, suc, Bool, false, ◌||◌, List, length, map, drop}
-use Rattle.chord_caller.specs.Answers.{is_pending}
-use Rattle.chord_caller.specs.Caller.{Caller, Submission}
+use Rattle.std.specs.Prelude.{ℕ, List, length, map, drop}
+use Rattle.chord_caller.specs.Caller.{Submission}
 use Rattle.chord_map.specs.declared.request.Request.{Request}
 use Rattle.chord_table.specs.Views.{CallerSight}
 
@@ -12,15 +11,6 @@ asked_by sight = map (λ (submission : Submission). submission.request) sight.ca
 -- the requests that the caller submitted after its first `before` ones
 abbrev pub asked_since : ℕ → CallerSight → List Request
 asked_since before sight = drop before (asked_by sight)
-
--- whether a request with one of the numbers up to this one is pending
-abbrev pub pends_upto : Caller → ℕ → Bool
-pends_upto caller zero = false
-pends_upto caller (suc number) = is_pending (suc number) caller || pends_upto caller number
-
--- whether a request of the caller is pending
-abbrev pub has_pending : Caller → Bool
-has_pending caller = pends_upto caller (length caller.submitted)
 
 -- a caller as the asker of a session: how many requests it had submitted when the session began,
 -- the node at which it asks, and what its seat shows

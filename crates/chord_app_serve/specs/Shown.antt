@@ -1,30 +1,16 @@
 -- How a node of a ring is shown to its operator, and what the operator is told. Source: our own.
-use Rattle.std.specs.Prelude.{◌≡◌, ℕ, ◌≤◌, ◌<◌, ◌==◌, Bool, true, false, map, slice_get, List, Option, Some, None, Ok, Err}
+use Rattle.std.specs.Prelude.{◌≡◌, ℕ, ◌≤◌, ◌<◌, ◌==◌, Bool, true, false, slice_get, List, Option, Some, None, Ok, Err}
 use Rattle.chord_app_operator.specs.Questions.{Question, Sight, Crash, Join, ReadPairs, Answer, Seen, Joined, HasCrashed, PairsRead}
-use Rattle.chord_app_operator.specs.declared.operator.refusals.CrashRefusal.{CrashRefusal}
 use Rattle.chord_app_operator.specs.declared.operator.refusals.CrashRefusal.TheVariants as crash
 use Rattle.chord_app_operator.specs.declared.request.store_kind.StoreKind.{StoreKind}
 use Rattle.chord_app_operator.specs.declared.request.store_kind.StoreKind.TheVariants as kind
-use Rattle.chord_app_operator.specs.declared.sight.node.NodeSight.{NodeSight}
-use Rattle.chord_app_operator.specs.declared.sight.parts.OutboxSight.{OutboxSight}
-use Rattle.chord_app_operator.specs.declared.sight.parts.SegmentSight.{SegmentSight}
-use Rattle.chord_app_operator.specs.declared.sight.phase.Phase.{Phase}
-use Rattle.chord_app_operator.specs.declared.sight.phase.Phase.TheVariants as shown
-use Rattle.chord_app_operator.specs.declared.sight.counts.AskCounts.{AskCounts}
-use Rattle.chord_app_operator.specs.declared.sight.counts.HandoverCounts.{HandoverCounts}
+use Rattle.chord_app_operator.specs.declared.sight.node.StoredNode.{StoredNode}
 use Rattle.chord_app_plan.specs.declared.node.PlanNode.{PlanNode}
 use Rattle.chord_app_plan.specs.declared.store_kind.StoreKind.{StoreKind as PlanStore}
 use Rattle.chord_app_plan.specs.declared.store_kind.StoreKind.TheVariants as plan
-use Rattle.chord_live_ring.specs.declared.node_counts.AskCounts.{AskCounts as RingAsks}
-use Rattle.chord_live_ring.specs.declared.node_counts.HandoverCounts.{HandoverCounts as RingHandovers}
-use Rattle.chord_live_ring.specs.declared.sight.NodeSight.{NodeSight as RingNode}
-use Rattle.chord_live_ring.specs.declared.sight.OutboxSight.{OutboxSight as RingItem}
-use Rattle.chord_live_ring.specs.declared.sight.SegmentSight.{SegmentSight as RingSegment}
 use Rattle.chord_app_serve.specs.ReadPairs.{IsRead}
 use Rattle.chord_live_ring.specs.Sights.{IsSightOf}
 use Rattle.chord_live_types.specs.declared.settings.Settings.{Settings}
-use Rattle.chord_model.specs.declared.phase.Phase.{Phase as RingPhase}
-use Rattle.chord_model.specs.declared.phase.Phase.TheVariants as phase
 
 -- the kind of a node's store: one that notes its count is a list
 abbrev pub store_shown : PlanStore → StoreKind
@@ -53,59 +39,14 @@ fits_spare kind.Capped None (plan.Capped most) = true
 fits_spare kind.Capped (Some wanted) (plan.Capped most) = wanted == most
 fits_spare kind limit other = false
 
--- the phase of a node that crashed or not
-abbrev pub phase_shown : Bool → RingPhase → Phase
-phase_shown true before = shown.Crashed
-phase_shown false phase.Staying = shown.Staying
-phase_shown false phase.Leaving = shown.Leaving
-phase_shown false phase.Gone = shown.Gone
-
-abbrev pub segment_shown : RingSegment → SegmentSight
-segment_shown segment = record { span = segment.span; kept = segment.kept }
-
-abbrev pub item_shown : RingItem → OutboxSight
-item_shown item = record { to = item.to; number = item.number; span = item.span; pairs = item.pairs }
-
-abbrev pub asks_shown : RingAsks → AskCounts
-asks_shown asks = record { told = asks.told; forwarded = asks.forwarded; dropped = asks.dropped; full = asks.full }
-
-abbrev pub handovers_shown : RingHandovers → HandoverCounts
-handovers_shown handovers = record { given = handovers.given; taken = handovers.taken; declined = handovers.declined }
-
--- all that a ring tells of a node is shown, as it is, with the kind of its store
-pub record ShowsNode (sight : RingNode) (kind : StoreKind) (shown : NodeSight) : Type 0 where
-  pub node : shown.node ≡ sight.number
-  pub id : shown.id ≡ sight.id
-  pub phase : shown.phase ≡ phase_shown sight.crashed sight.phase
-  pub store : shown.store ≡ kind
-  pub predecessor : shown.predecessor ≡ sight.predecessor
-  pub successors : shown.successors.items ≡ sight.successors.items
-  pub fingers : shown.fingers ≡ sight.fingers
-  pub segments : shown.segments.items ≡ map segment_shown sight.segments.items
-  pub pairs : shown.pairs ≡ sight.pairs
-  pub outbox : shown.outbox.items ≡ map item_shown sight.outbox.items
-  pub asks : shown.asks ≡ asks_shown sight.counts.asks
-  pub handovers : shown.handovers ≡ handovers_shown sight.counts.handovers
-  pub ticks : shown.ticks ≡ sight.counts.ticks
-
 -- the node of this number of some reachable world, of which the theorem holds, looks so, and has a
 -- store of this kind
-pub record IsShownAs (number : ℕ) (store : StoreKind) (shown : NodeSight) : Type 0 where
-  pub sight : RingNode
-  pub seen : IsSightOf number sight
-  pub shows : ShowsNode sight store shown
+abbrev pub IsShownAs : (number : ℕ) (store : StoreKind) → StoredNode → Type 0
+IsShownAs number store shown = IsSightOf number shown.sight × (shown.store ≡ store)
 
 -- the nodes are those of the numbers 0, 1 and so on, each as it looks, with the kind of its store
-abbrev pub AreShown : (ℕ → StoreKind) → List NodeSight → Type 0
-AreShown stores nodes = (number : ℕ) (shown : NodeSight) → slice_get nodes number ≡ Some shown → IsShownAs number (stores number) shown
-
--- why a node does not crash: it is no member, or the ring would not stand without it and the crash
--- is not forced
-abbrev pub crash_refusal : Bool → Bool → Bool → Option CrashRefusal
-crash_refusal false stands forced = Some crash.NotLive
-crash_refusal true stands true = None
-crash_refusal true true false = None
-crash_refusal true false false = Some crash.Unsafe
+abbrev pub AreShown : (ℕ → StoreKind) → List StoredNode → Type 0
+AreShown stores nodes = (number : ℕ) (shown : StoredNode) → slice_get nodes number ≡ Some shown → IsShownAs number (stores number) shown
 
 -- What the operator of a ring with these settings and kinds of stores may be told. The ring is shown
 -- with its nodes by number, each as one of a reachable world, and pairs are those of one. A node that

@@ -1,14 +1,14 @@
 //! A caller of a ring, as the asker of a session.
-ghost use Rattle.std.specs.Prelude.{◌≡◌, []};
-ghost use Rattle.chord_app_serve.specs.Answered.{AnswersBy, TellsCall, TellsReply, TellsRetry, told_of_wait};
-ghost use Rattle.chord_app_serve.specs.Asked.{asked_since, first_asker, has_pending};
+ghost use Rattle.std.specs.Prelude.{◌≡◌, ◌+◌, []};
+ghost use Rattle.chord_app_serve.specs.Answered.{AnswersBy, SettlesTo, TellsCall, TellsReply, TellsRetry, told_of_wait};
+ghost use Rattle.chord_app_serve.specs.Asked.{asked_since, first_asker};
 ghost use Rattle.chord_serve.specs.Question.{IsAnswer};
 
 use crate::serving::idle::IdleCaller;
 use chord_live::RingClient;
 use chord_live_types::{AskFault, RetryFault, WaitFault};
 use chord_map::{Reply, Request};
-use chord_serve::{Asked, Asker, MayBePending};
+use chord_serve::{Asked, Asker};
 use chord_store::EntryStore;
 use chord_table::Naming;
 use chord_wire::is_writable;
@@ -59,6 +59,20 @@ impl<'a, J: Naming, S: EntryStore, R: Wait + Clock> RingAsker<'a, J, S, R> {
         ensures { result ≡ self.entry.caller }
     {
         self.caller
+    }
+}
+
+/// Gives up the requests of a session up to this number that have no reply. The caller had submitted
+/// `before` requests when the session began.
+fn settle<J: Naming, S: EntryStore>(caller: &mut RingClient<'_, J, S>, before: u64, floor: u64)
+    ensures { SettlesTo (before + floor) caller.old caller.new }
+{
+    let upto = before.saturating_add(floor);
+    while let Some(number) = caller.pending() {
+        if upto < number {
+            return;
+        }
+        let _ = caller.give_up(number);
     }
 }
 
@@ -118,7 +132,8 @@ impl<'a, J: Naming, S: EntryStore, R: Wait + Clock> Asker for RingAsker<'a, J, S
     ghost asked = { λ a. asked_since a.before a.caller };
 
     /// Asks a request, by a call of the caller.
-    fn ask(&mut self, request: &Request) -> Asked {
+    fn ask(&mut self, request: &Request, floor: u64) -> Asked {
+        settle(&mut self.caller, self.before, floor);
         let Ok(copy) = request.try_copy() else {
             return Asked::Memory;
         };
@@ -127,7 +142,8 @@ impl<'a, J: Naming, S: EntryStore, R: Wait + Clock> Asker for RingAsker<'a, J, S
     }
 
     /// Sends the request of this number again; the caller's number is greater by `before`.
-    fn retry(&mut self, number: u64) -> Asked {
+    fn retry(&mut self, number: u64, floor: u64) -> Asked {
+        settle(&mut self.caller, self.before, floor);
         let Some(submitted) = self.before.checked_add(number) else {
             return Asked::NoAnswer;
         };
@@ -138,12 +154,4 @@ impl<'a, J: Naming, S: EntryStore, R: Wait + Clock> Asker for RingAsker<'a, J, S
     ghost notes = { λ a b question answer heard. heard.0.notes };
 
     ghost kind = { λ a b question answer heard. heard.0.kind };
-}
-
-impl<'a, J: Naming, S: EntryStore, R: Wait + Clock> MayBePending for RingAsker<'a, J, S, R> {
-    ghost pending = { λ a. has_pending a.caller.caller };
-
-    fn is_pending(&self) -> bool {
-        self.caller.pending().is_some()
-    }
 }

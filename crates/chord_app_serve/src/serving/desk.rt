@@ -12,7 +12,6 @@ use std::alloc::Global;
 use std::hash::RandomState;
 use std::io;
 use std::net::TcpListener;
-use std::sync::Mutex;
 use std::sync::atomic::AtomicU64;
 use std::time::{Clock, Instant};
 
@@ -48,8 +47,6 @@ pub struct Desk<'s, S: EntryStore> {
     pub spares: Spares<S>,
     /// None if the clock could not be read.
     began: Option<Instant>,
-    /// Held from the look that says that a node may crash until it has crashed.
-    pub crashing: Mutex<()>,
     /// How many identifiers were drawn for nodes that joined without one.
     pub draws: AtomicU64,
     pub door: Option<OperatorDoor<'s>>,
@@ -70,7 +67,6 @@ impl<'s, S: EntryStore> Desk<'s, S> {
             plan: setup.plan,
             spares,
             began: Instant::now(rt).ok(),
-            crashing: Mutex::new(()),
             draws: AtomicU64::new(0),
             door,
         })

@@ -2,30 +2,18 @@
 ghost use Rattle.std.specs.Prelude.{};
 
 use chord_app_sockets::Clients;
-use chord_live_ring::{NodeSight, Ring};
-use chord_model::Phase;
+use chord_live_ring::Ring;
 use chord_resp_serve::Informs;
+use chord_sight::NodeSight;
 use chord_store::EntryStore;
 use chord_table::Naming;
 use std::alloc::{AllocError, Global};
 use std::sync::Wait;
 
-/// The word for a node's phase.
-fn phase_word(sight: &NodeSight) -> &'static str {
-    if sight.crashed {
-        return "crashed";
-    }
-    match sight.phase {
-        Phase::Staying => "staying",
-        Phase::Leaving => "leaving",
-        Phase::Gone => "gone",
-    }
-}
-
 /// Adds the line of a node.
 fn add_node(alloc: Global, text: &mut Vec<u8>, sight: &NodeSight) -> Result<(), AllocError> {
     let (number, pairs, segments) = (sight.number, sight.pairs, sight.segments.len());
-    let phase = phase_word(sight);
+    let phase = sight.phase.word();
     let line = format!(in alloc;
         "node{number}:phase={phase},pairs={pairs},segments={segments}\r\n"
     )?;

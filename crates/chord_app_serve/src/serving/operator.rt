@@ -1,21 +1,19 @@
 //! The operator of a server's ring.
-ghost use Rattle.std.specs.Prelude.{◌≡◌, false, Err, IfOk, IfSome};
+ghost use Rattle.std.specs.Prelude.{◌≡◌, ◌≢◌, false, Err, IfOk, IfSome};
 ghost use Rattle.chord_app_operator.specs.declared.operator.refusals.CrashRefusal.TheVariants as CrashRefusals;
-ghost use Rattle.chord_app_serve.specs.Shown.{crash_refusal, store_of, AreShown, IsShownAs, Tells};
+ghost use Rattle.chord_app_serve.specs.Shown.{store_of, AreShown, IsShownAs, Tells};
 
 use crate::serving::caller_pool::CallerPool;
 use crate::serving::desk::Desk;
-use crate::serving::pairs::first_of;
 use crate::serving::sessions::Sessions;
-use crate::serving::shown::node_shown;
 use crate::serving::tally::Tally;
 use chord_app_operator::{
     CallerCounts, CrashRefusal, CrashRequest, Holder, JoinRefusal, JoinRequest, LeaveRefusal,
-    NodeSight, Operator, PairsPage, PairsRequest, RingSight,
+    Operator, PairsPage, PairsRequest, RingSight, StoredNode,
 };
 use chord_app_sockets::{Clients, Host, Until};
 use chord_ident::Id;
-use chord_live_ring::Ring;
+use chord_live_ring::{CrashFault, Ring};
 use chord_live_types::LeaveFault;
 use chord_model::Phase;
 use chord_store::EntryStore;
@@ -48,18 +46,18 @@ impl<'t, 's, 'r, J: Naming, S: EntryStore, R: Wait + Clock> RingOperator<'t, 's,
     }
 
     /// A node as it looks now, if it was admitted.
-    fn node_at(&self, alloc: Global, number: u64) -> Result<Option<NodeSight>, AllocError>
+    fn node_at(&self, alloc: Global, number: u64) -> Result<Option<StoredNode>, AllocError>
         ensures { IfOk result (λ found. IfSome found (IsShownAs number (store_of self.now.desk.now.plan.now.nodes.items self.now.desk.now.spares.kind number))) }
     {
         let Some(sight) = self.ring.sight(self.rt, alloc, number)? else {
             return Ok(None);
         };
-        let shown = node_shown(alloc, sight, self.desk.store_of(number))?;
-        Ok(Some(shown))
+        let store = self.desk.store_of(number);
+        Ok(Some(StoredNode { sight, store }))
     }
 
     /// The nodes that there are, by number, each as it looks now.
-    fn nodes(&self, alloc: Global) -> Result<Vec<NodeSight>, AllocError>
+    fn nodes(&self, alloc: Global) -> Result<Vec<StoredNode>, AllocError>
         ensures { IfOk result (λ nodes. AreShown (store_of self.now.desk.now.plan.now.nodes.items self.now.desk.now.spares.kind) nodes.items) }
     {
         let mut nodes = Vec::new(alloc);
@@ -72,33 +70,28 @@ impl<'t, 's, 'r, J: Naming, S: EntryStore, R: Wait + Clock> RingOperator<'t, 's,
         Ok(nodes)
     }
 
-    /// Crashes a node, unless that is refused.
+    /// Crashes a node if the ring allows it, or by force.
     fn crash_node(&self, request: CrashRequest) -> Result<(), CrashRefusal>
         ensures { result ≡ Err CrashRefusals.Unsafe → request.is_forced ≡ false }
     {
-        let is_member = self.ring.is_live(request.node);
-        let stands = self.ring.may_crash(self.rt, request.node) == Ok(true);
-        if let Some(refusal) = crash_refusal(is_member, stands, request.is_forced) {
-            return Err(refusal);
+        match self.ring.crash_if_safe(self.rt, request.node) {
+            Ok(()) => Ok(()),
+            Err(CrashFault::NoSuchNode) => Err(CrashRefusal::NoSuchNode),
+            Err(CrashFault::NotLive) => Err(CrashRefusal::NotLive),
+            Err(CrashFault::Unsafe) if request.is_forced => self.crash_by_force(request.node),
+            Err(CrashFault::Unsafe) => Err(CrashRefusal::Unsafe),
         }
-        match self.ring.crash(self.rt, request.node) {
+    }
+
+    /// Crashes a node without which the ring does not hold together.
+    fn crash_by_force(&self, node: u64) -> Result<(), CrashRefusal>
+        ensures { result ≢ Err CrashRefusals.Unsafe }
+    {
+        match self.ring.crash(self.rt, node) {
             Ok(()) => Ok(()),
             Err(_) => Err(CrashRefusal::NoSuchNode),
         }
     }
-}
-
-/// Why a node does not crash, if it does not.
-fn crash_refusal(is_member: bool, stands_without: bool, is_forced: bool) -> Option<CrashRefusal>
-    ensures { result ≡ crash_refusal is_member stands_without is_forced }
-{
-    if !is_member {
-        return Some(CrashRefusal::NotLive);
-    }
-    if is_forced || stands_without {
-        return None;
-    }
-    Some(CrashRefusal::Unsafe)
 }
 
 impl<'t, 's, 'r, J: Naming, S: EntryStore, R: Host> Operator for RingOperator<'t, 's, 'r, J, S, R> {
@@ -110,6 +103,7 @@ impl<'t, 's, 'r, J: Naming, S: EntryStore, R: Host> Operator for RingOperator<'t
         Ok(RingSight {
             successors: settings.successors as u64,
             slots: settings.slots as u64,
+            premise: self.ring.holds_premise(self.rt),
             callers: CallerCounts {
                 open: self.pool.serving(),
                 all: settings.callers as u64,
@@ -144,13 +138,7 @@ impl<'t, 's, 'r, J: Naming, S: EntryStore, R: Host> Operator for RingOperator<'t
     }
 
     fn crash(&mut self, request: CrashRequest) -> Result<(), CrashRefusal> {
-        if !self.ring.was_admitted(request.node) {
-            return Err(CrashRefusal::NoSuchNode);
-        }
-        let turn = self.desk.crashing.lock(self.rt);
-        let crashed = self.crash_node(request);
-        drop(turn);
-        crashed
+        self.crash_node(request)
     }
 
     /// Asks one node after another, each under its lock. A node that holds the identifier counts
@@ -169,15 +157,11 @@ impl<'t, 's, 'r, J: Naming, S: EntryStore, R: Host> Operator for RingOperator<'t
         found
     }
 
-    /// Asks one node after another, each under its lock, for the pairs from the identifier on.
     fn pairs(&mut self, alloc: Global, request: PairsRequest) -> Result<PairsPage, AllocError> {
-        if let Some(page) = self.held_page(alloc, request)? {
-            return Ok(page);
+        match self.page_of(alloc, request) {
+            Ok(page) => Ok(page),
+            Err(refused) => Err(refused),
         }
-        Ok(PairsPage {
-            pairs: Vec::new(alloc),
-            next: self.gone_on(alloc, first_of(request))?,
-        })
     }
 
     fn stop(&mut self) {

@@ -1,12 +1,12 @@
 //! The pairs of a ring as its operator reads them.
 ghost use Rattle.std.specs.Prelude.{◌≡◌, map, max, IfOk, IfSome};
-ghost use Rattle.chord_app_serve.specs.ReadPairs.{first_of, operator_look, placed_look, IsReadAt, ShowsPage};
+ghost use Rattle.chord_app_serve.specs.ReadPairs.{first_of, operator_look, placed_look, rest_behind, segment_span, item_span, HasSpan, IsLostBy, IsLost, IsReadAt, IsEmptyAt, IsRead, ShowsPage};
 
 use crate::serving::operator::RingOperator;
-use chord_app_operator::{Pair, PairsPage, PairsRequest};
+use chord_app_operator::{PageState, Pair, PairsPage, PairsRequest};
 use chord_ident::{Id, Span};
-use chord_live_ring::{NodeSight, OutboxSight, SegmentSight};
 use chord_node::PlacedPair;
+use chord_sight::{NodeSight, OutboxSight, Phase, SegmentSight};
 use chord_store::EntryStore;
 use chord_table::Naming;
 use std::alloc::{AllocError, Global};
@@ -30,7 +30,6 @@ fn pair_shown(alloc: Global, placed: &PlacedPair) -> Result<Pair, AllocError>
     ensures { IfOk result (λ pair. operator_look pair ≡ placed_look placed.now) }
 {
     Ok(Pair {
-        id: placed.id,
         key: Vec::from_slice(alloc, placed.pair.key.as_slice())?,
         value: Vec::from_slice(alloc, placed.pair.value.as_slice())?,
     })
@@ -54,11 +53,14 @@ pub fn page_shown(alloc: Global, page: &chord_node::PairsPage) -> Result<PairsPa
     Ok(PairsPage {
         pairs,
         next: page.next,
+        state: PageState::Held,
     })
 }
 
 // The identifier behind which to go on where nobody answers for what is left of the span.
-fn behind_rest(first: Id, span: Span) -> Option<Id> {
+fn rest_behind(first: Id, span: Span) -> Option<Id>
+    ensures { result ≡ rest_behind first span }
+{
     if first.number <= span.upto.number && span.upto.number < LAST {
         Some(span.upto)
     } else {
@@ -67,7 +69,9 @@ fn behind_rest(first: Id, span: Span) -> Option<Id> {
 }
 
 // The segment with the identifier among these.
-fn segment_with(segments: &[SegmentSight], first: Id) -> Option<Span> {
+fn segment_with(segments: &[SegmentSight], first: Id) -> Option<Span>
+    ensures { IfSome result (HasSpan segment_span segments.now first) }
+{
     for segment in segments {
         if segment.span.contains(first) {
             return Some(segment.span);
@@ -77,13 +81,32 @@ fn segment_with(segments: &[SegmentSight], first: Id) -> Option<Span> {
 }
 
 // The first handover of the identifier among these.
-fn handover_with(outbox: &[OutboxSight], first: Id) -> Option<OutboxSight> {
+fn handover_with(outbox: &[OutboxSight], first: Id) -> Option<OutboxSight>
+    ensures { IfSome result (λ item. HasSpan item_span outbox.now first item.span) }
+{
     for item in outbox {
         if item.span.contains(first) {
             return Some(*item);
         }
     }
     None
+}
+
+// The first handover of the identifier that a node gives.
+fn given_handover(sight: &NodeSight, first: Id) -> Option<OutboxSight>
+    ensures { IfSome result (λ item. IsLostBy sight.now first item.span) }
+{
+    handover_with(&sight.outbox, first)
+}
+
+// The span with the identifier that a node lost when it crashed.
+fn lost_segment(sight: &NodeSight, first: Id) -> Option<Span>
+    ensures { IfSome result (IsLostBy sight.now first) }
+{
+    match sight.phase {
+        Phase::Crashed => segment_with(&sight.segments, first),
+        Phase::Staying | Phase::Leaving | Phase::Gone => None,
+    }
 }
 
 impl<'t, 's, 'r, J: Naming, S: EntryStore, R: Wait + Clock> RingOperator<'t, 's, 'r, J, S, R> {
@@ -107,48 +130,81 @@ impl<'t, 's, 'r, J: Naming, S: EntryStore, R: Wait + Clock> RingOperator<'t, 's,
         Ok(None)
     }
 
-    // Where a handover of the identifier goes that will not come to its end, since its giver or its
-    // receiver crashed.
-    fn lost_handover(&self, sight: &NodeSight, first: Id) -> Option<Span> {
-        let item = handover_with(&sight.outbox, first)?;
-        if sight.crashed || self.ring.phase_of(self.rt, item.to) == None {
+    // The span of a handover of the identifier that will not end, since its giver or its receiver
+    // crashed.
+    fn lost_handover(&self, sight: &NodeSight, first: Id) -> Option<Span>
+        ensures { IfSome result (IsLostBy sight.now first) }
+    {
+        let item = given_handover(sight, first)?;
+        if sight.phase == Phase::Crashed || self.ring.phase_of(self.rt, item.to) == None {
             Some(item.span)
         } else {
             None
         }
     }
 
-    // The span with the identifier that a node lost when it crashed.
-    fn lost_segment(sight: &NodeSight, first: Id) -> Option<Span> {
-        if !sight.crashed {
-            return None;
-        }
-        segment_with(&sight.segments, first)
+    // The span with the identifier that was lost with the node of this number, if it was: by a
+    // segment of the node, or by a handover.
+    fn lost_at(
+        &self,
+        alloc: Global,
+        number: u64,
+        first: Id,
+    ) -> Result<(Option<Span>, Option<Span>), AllocError>
+        ensures { IfOk result (λ found. IfSome found.0 (IsLost first) × IfSome found.1 (IsLost first)) }
+    {
+        let Some(sight) = self.ring.sight(self.rt, alloc, number)? else {
+            return Ok((None, None));
+        };
+        let segment = lost_segment(&sight, first);
+        let handover = self.lost_handover(&sight, first);
+        drop(sight);
+        Ok((segment, handover))
     }
 
-    // The span with the identifier for which nobody answers any more, if there is one.
-    fn lost_span(&self, alloc: Global, first: Id) -> Result<Option<Span>, AllocError> {
-        let mut handover = None;
+    // The span with the identifier for which nobody answers any more, if there is one. What a node
+    // lost comes before a handover.
+    fn lost_span(&self, alloc: Global, first: Id) -> Result<Option<Span>, AllocError>
+        ensures { IfOk result (λ found. IfSome found (IsLost first)) }
+    {
+        let mut lost = None;
         for number in 0..self.ring.node_count() {
-            let Some(sight) = self.ring.sight(self.rt, alloc, number)? else {
-                return Ok(handover);
-            };
-            let segment = Self::lost_segment(&sight, first);
-            handover = handover.or(self.lost_handover(&sight, first));
-            drop(sight);
+            let (segment, handover) = self.lost_at(alloc, number, first)?;
             if segment.is_some() {
                 return Ok(segment);
             }
+            lost = lost.or(handover);
         }
-        Ok(handover)
+        Ok(lost)
     }
 
-    /// The identifier behind which to go on where no node that has not crashed holds this one:
-    /// behind what was lost with a node, or from here, where it moves from node to node.
-    pub fn gone_on(&self, alloc: Global, first: Id) -> Result<Option<Id>, AllocError> {
+    /// The page where no node that has not crashed holds the identifier: it goes on behind what was
+    /// lost with a node, or from here, where the identifier moves from node to node.
+    pub fn empty_page(&self, alloc: Global, first: Id) -> Result<PairsPage, AllocError>
+        ensures { IfOk result (IsEmptyAt first) }
+    {
         match self.lost_span(alloc, first)? {
-            Some(span) => Ok(behind_rest(first, span)),
-            None => Ok(Some(Id::new(first.number.wrapping_sub(1)))),
+            Some(span) => Ok(PairsPage {
+                pairs: Vec::new(alloc),
+                next: rest_behind(first, span),
+                state: PageState::Lost,
+            }),
+            None => Ok(PairsPage {
+                pairs: Vec::new(alloc),
+                next: Some(Id::new(first.number.wrapping_sub(1))),
+                state: PageState::UnderWay,
+            }),
         }
+    }
+
+    /// The page of pairs that a request asks for. One node after another is asked, each under its
+    /// lock.
+    pub fn page_of(&self, alloc: Global, request: PairsRequest) -> Result<PairsPage, AllocError>
+        ensures { IfOk result (IsRead request) }
+    {
+        if let Some(page) = self.held_page(alloc, request)? {
+            return Ok(page);
+        }
+        self.empty_page(alloc, first_of(request))
     }
 }

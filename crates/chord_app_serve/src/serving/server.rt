@@ -13,8 +13,8 @@ use crate::serving::sessions::Sessions;
 use crate::serving::tally::Tally;
 use chord_app_loop::{Crowd, Lending, Loops, Visit, serve_lending};
 use chord_app_sockets::{
-    Clients, Door, Doors, Ended, Host, Lines, PatientReader, PatientWriter, Pollers, PollingReader,
-    Protocol, ServerSetup, Until, close_slowly, prepare,
+    Clients, Door, Doors, Ended, Host, Lines, OncePerSecond, PatientReader, PatientWriter, Pollers,
+    PollingReader, Protocol, ServerSetup, Until, close_slowly, prepare,
 };
 use chord_app_text::Finish;
 use chord_live_ring::{ReturnedCaller, Ring, RingParts};
@@ -22,7 +22,7 @@ use chord_resp::put_error;
 use chord_resp_serve::ServerInfo;
 use chord_serve::{Due, Served, tell_callers_spent};
 use chord_store::EntryStore;
-use chord_table::{Assembly, Naming};
+use chord_table::{Naming, Registrar};
 use log::Log;
 use std::alloc::Global;
 use std::io::{self, Write};
@@ -57,6 +57,7 @@ pub struct Server<'s, 'r, J: Naming, S: EntryStore, R, L, W> {
     /// How many connections of clients got a number, at all doors.
     numbers: AtomicU64,
     pub desk: Desk<'s, S>,
+    warnings: OncePerSecond,
 }
 
 /// How a server lends connections to event loops.
@@ -83,9 +84,16 @@ fn tell_spent<W: Write>(alloc: Global, protocol: Protocol, writer: &mut W) -> io
 }
 
 impl<'s, 'r, J: Naming, S: EntryStore, R: Host, L: Log, W: Write> Server<'s, 'r, J, S, R, L, W> {
-    /// Notes and logs how a connection ended. If writing fails, the server stops.
+    /// Notes and logs how a connection ended, and warns of one that may be a web page's, at most once
+    /// a second. If writing fails, the server stops.
     fn tell(&self, number: u64, ended: &Ended) {
+        let rt = self.service.rt;
         self.service.log_end(number, ended);
+        if *ended == Ended::Served(Served::Foreign)
+            && self.warnings.passes(self.desk.uptime_ms(rt))
+        {
+            self.service.warn_of_foreign(number);
+        }
         self.tally.end(self.service.rt, ended);
         if !self.lines.tell(self.service.rt, number, ended) {
             self.until.stop(self.service.rt);
@@ -102,9 +110,9 @@ impl<'s, 'r, J: Naming, S: EntryStore, R: Host, L: Log, W: Write> Server<'s, 'r,
     }
 
     /// A caller of the pool, or else that of a session without a connection, which is dropped.
-    pub fn caller_for(&self, guest: Guest<'_>) -> Result<IdleCaller<'r, J, S>, Ended> {
+    pub fn caller_for(&self) -> Result<IdleCaller<'r, J, S>, Ended> {
         let rt = self.service.rt;
-        let none = match self.pool.take(rt, guest.via) {
+        let none = match self.pool.take(rt) {
             Ok(idle) => return Ok(idle),
             Err(none) => none,
         };
@@ -114,7 +122,7 @@ impl<'s, 'r, J: Naming, S: EntryStore, R: Host, L: Log, W: Write> Server<'s, 'r,
         };
         self.tally.drop_session(rt);
         self.pool.add(rt, asker.into_caller());
-        self.pool.take(rt, guest.via)
+        self.pool.take(rt)
     }
 
     /// Serves a client that speaks Redis's protocol, and lends its connection while it is busy.
@@ -125,7 +133,7 @@ impl<'s, 'r, J: Naming, S: EntryStore, R: Host, L: Log, W: Write> Server<'s, 'r,
         stream: &Arc<TcpStream>,
     ) -> Ended {
         let service = self.service;
-        let idle = match self.caller_for(guest) {
+        let idle = match self.caller_for() {
             Ok(idle) => idle,
             Err(none) => return self.refuse(guest, none),
         };
@@ -436,7 +444,7 @@ fn serve_beside_loops<
 fn conclude<J: Naming, S: EntryStore>(
     ring: Ring<J, S>,
     callers: Vec<ReturnedCaller<J>>,
-) -> Result<Assembly<J>, Finish>
+) -> Result<Registrar<J>, Finish>
     ensures { IfOk result (λ seats. WholeShown seats) }
 {
     let closed = ring.close_all(callers);
@@ -471,8 +479,7 @@ impl<S: EntryStore + Send, R: Host, L: Log + Sync, W: Write + Send> Serving<'_, 
             lines,
         } = self;
         let service = Service::new(rt, ring, setup);
-        let kept = until.kept_callers(setup.settings.callers);
-        let pool = CallerPool::new(setup.alloc, ring, kept)?;
+        let pool = CallerPool::new(setup.alloc, ring, until.keeps_callers())?;
         let ServerStores { nodes, spares } = stores;
         let desk = Desk::new(rt, setup, spares)?;
         let server = Server {
@@ -486,12 +493,13 @@ impl<S: EntryStore + Send, R: Host, L: Log + Sync, W: Write + Send> Serving<'_, 
             until,
             numbers: AtomicU64::new(0),
             desk,
+            warnings: OncePerSecond::new(),
         };
         let served = serve_beside_loops(&service, &server, setup, nodes);
         server.drop_sessions();
-        let callers = server.pool.into_callers();
+        let callers = server.pool.into_callers(setup.alloc);
         served?;
-        Ok(callers)
+        Ok(callers?)
     }
 
     /// Gives the ring its name, and serves. Then the ring ends by a look at the whole of it.

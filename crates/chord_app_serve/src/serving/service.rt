@@ -25,7 +25,7 @@ use chord_serve::{ClientSession, Parted, Served, serve_plain, serve_session, tel
 use chord_store::EntryStore;
 use chord_table::Naming;
 use chord_wire::SessionFrames;
-use log::{Log, info};
+use log::{Log, info, warn};
 use std::alloc::Global;
 use std::io::{Read, Write};
 use std::sync::Wait;
@@ -170,5 +170,10 @@ impl<'r, J: Naming, S: EntryStore, R: Wait + Clock, L: Log> Service<'r, J, S, R,
     /// Logs how a connection ended.
     pub fn log_end(&self, number: u64, ended: &Ended) {
         info!(self.notes; target: "chord", "connection {number} {ended}");
+    }
+
+    /// Warns that a connection was ended since it wrote what a web page can make a browser write.
+    pub fn warn_of_foreign(&self, number: u64) {
+        warn!(self.notes; target: "chord", "connection {number} sent HTTP or a byte 0 to the port of Redis's protocol: a web page may have tried to reach the store");
     }
 }

@@ -106,8 +106,8 @@ impl<'r, J: Naming, S: EntryStore, R: Wait + Clock> Sessions<'r, J, S, R> {
         table.drop_oldest(u64::MAX)
     }
 
-    /// Drops a session that is kept, whether a request is pending or not: the server ends.
+    /// Drops a session that is kept: the server ends.
     pub fn drop_first(&self, rt: &R) -> Option<RingAsker<'r, J, S, R>> {
-        self.table.lock(rt).drop_first()
+        self.table.lock(rt).drop_oldest(u64::MAX)
     }
 }

@@ -20,7 +20,7 @@ fn count_of<'a>(ends: &'a mut EndCounts, ended: &Ended) -> &'a mut u64 {
         Ended::Served(Served::Ended | Served::Quit) => &mut ends.ended,
         Ended::Served(Served::Truncated) => &mut ends.truncated,
         Ended::Served(Served::Malformed(_)) => &mut ends.malformed,
-        Ended::Served(Served::Protocol) => &mut ends.protocol,
+        Ended::Served(Served::Protocol | Served::Foreign) => &mut ends.protocol,
         Ended::Served(Served::Read) | Ended::NotAccepted => &mut ends.read,
         Ended::Served(Served::Write) => &mut ends.write,
         Ended::Served(Served::TurnsSpent) => &mut ends.turns_spent,

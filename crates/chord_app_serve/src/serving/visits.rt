@@ -37,7 +37,7 @@ impl<'s, 'r, J: Naming, S: EntryStore, R: Host, L: Log, W: Write> Server<'s, 'r,
     /// Serves a client that speaks in frames.
     pub fn serve_frames(&self, guest: Guest<'_>) -> Ended {
         let frames = SessionFrames::new(self.service.alloc);
-        match self.pool.take(self.service.rt, guest.via) {
+        match self.pool.take(self.service.rt) {
             Ok(idle) => self.serve_by(idle, guest, frames),
             Err(Ended::CallersSpent) => self.serve_without_caller(guest, frames),
             Err(none) => none,
@@ -78,7 +78,7 @@ impl<'s, 'r, J: Naming, S: EntryStore, R: Host, L: Log, W: Write> Server<'s, 'r,
         if let Ok(Some(opening)) = opening {
             return self.open_without_caller(opening, guest, frames);
         }
-        match self.caller_for(guest) {
+        match self.caller_for() {
             Ok(idle) => self.serve_by(idle, guest, frames),
             Err(none) => self.refuse(guest, none),
         }
@@ -94,7 +94,7 @@ impl<'s, 'r, J: Naming, S: EntryStore, R: Host, L: Log, W: Write> Server<'s, 'r,
         if opening.resumes {
             return self.resume(opening.token, guest, frames);
         }
-        match self.caller_for(guest) {
+        match self.caller_for() {
             Ok(idle) => self.begin(idle, opening.token, guest, frames),
             Err(none) => self.refuse(guest, none),
         }

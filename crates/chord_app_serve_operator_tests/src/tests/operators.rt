@@ -217,13 +217,13 @@ const READ: &[Call] = &[
     Call {
         line: "GET /pairs?after=a9993e364706816aba3e25717850c26b&limit=1",
         status: "200 OK",
-        has: "\r\n\r\n{\"id\":\"a9993e364706816aba3e25717850c26c\",\"key\":\"616263\",\"value\":\"78\"}\n",
+        has: "\r\n\r\ninsert x:616263 x:78\n",
         ..PLAIN
     },
     Call {
         line: "GET /pairs?after=a9993e364706816aba3e25717850c26b&limit=1",
         status: "200 OK",
-        has: "chord-next: a9993e364706816aba3e25717850c26c\r\n",
+        has: "chord-page: held\r\nchord-next: a9993e364706816aba3e25717850c26c\r\n",
         ..PLAIN
     },
     Call {
@@ -296,10 +296,35 @@ const CRASH: &[Call] = &[
         ..PLAIN
     },
     Call {
+        line: "GET /ring",
+        status: "200 OK",
+        has: ",\"premise\":false,",
+        ..PLAIN
+    },
+    Call {
+        line: "GET /metrics",
+        status: "200 OK",
+        has: "\nchord_ring_premise 0\n",
+        ..PLAIN
+    },
+    Call {
+        line: "GET /pairs?after=a9993e364706816aba3e25717850c26b",
+        status: "200 OK",
+        has: "chord-page: lost\r\n",
+        ..PLAIN
+    },
+    Call {
         line: "GET /pairs?after=a9993e364706816aba3e25717850c26b",
         status: "200 OK",
         has: "content-length: 0\r\n",
         ..PLAIN
+    },
+    Call {
+        line: "GET /ring",
+        fields: "Accept: text/plain\r\n",
+        body: "",
+        status: "200 OK",
+        has: "  crashed  ",
     },
     Call {
         line: "GET /health",

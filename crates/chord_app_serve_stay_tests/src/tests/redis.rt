@@ -3,9 +3,9 @@
 use crate::checks::check;
 use chord_app_serve_testkit::{
     Act, Acts, Ending, GOOD, NOTHING, SMALL, Script, Size, Speech, WAITS, expect, expect_end,
-    follow, follow_to_the_end, leave, look_at, serve_beside,
+    follow, follow_noted, follow_to_the_end, leave, look_at, serve_beside,
 };
-use log::sink::Discard;
+use log::sink::{Discard, Locked};
 use std::alloc::Global;
 use std::io::{self, Read, Write};
 use std::net::{Net, SocketAddr, TcpStream};
@@ -114,6 +114,69 @@ fn redis_clients_alone(rt: HostRuntime) {
     let lines = "connection 0 protocol\nconnection 1 callersspent\n";
     let found = follow_to_the_end(&rt, rt.alloc(), (REDIS, 2), CROWDED, lines);
     check!(&rt; found == Some(GOOD));
+}
+
+/// A store that is full refuses one command of a connection. The next ones are served: they read the
+/// set, make room, and see that the refused command does not act.
+const FULL: Script = Script {
+    first: &[
+        (0, Act::ConnectRedis),
+        (0, ADD),
+        (
+            0,
+            Act::Exchange(b"SADD a y\r\n", b"-OOM the node's store is full\r\n"),
+        ),
+        (0, LOOK),
+        (
+            0,
+            Act::Exchange(
+                b"SREM a x\r\nSMEMBERS a\r\nSADD a y\r\n",
+                b":1\r\n*0\r\n:1\r\n",
+            ),
+        ),
+        (0, Act::Leave),
+    ],
+    ..NOTHING
+};
+
+#[test]
+fn a_full_store_refuses_one_command(rt: HostRuntime) -> Result<(), Fail> {
+    let lines = "connection 0 ended\n";
+    let server = (Size { room: 1, ..REDIS }, WAITS);
+    let found = follow(&rt, rt.alloc(), server, FULL, io::pipe(&rt)?, lines);
+    assert!(rt; found == Some(GOOD), "{found:?}");
+    Ok(())
+}
+
+/// A page makes a browser write to the port.
+const PAGE: Script = Script {
+    first: &[
+        (0, Act::ConnectRedis),
+        (
+            0,
+            Act::Exchange(
+                b"PING\r\nPOST / HTTP/1.1\r\nHost: 127.0.0.1\r\n\r\nSADD svc:web evil\r\n",
+                b"+PONG\r\n",
+            ),
+        ),
+        (0, Act::End),
+    ],
+    ..NOTHING
+};
+
+/// Its connection ends, and is warned of.
+#[test]
+fn a_page_is_warned_of(rt: HostRuntime) -> Result<(), Fail> {
+    let notes = Locked::new(rt, Vec::new(rt.alloc()));
+    let server = (REDIS, WAITS);
+    let (pipe, lines) = (io::pipe(&rt)?, "connection 0 protocol\n");
+    let found = follow_noted(&rt, rt.alloc(), server, &notes, PAGE, pipe, lines);
+    check!(&rt; found == Some(GOOD));
+    let noted: Vec<u8> = notes.into_inner();
+    let wanted =
+        "[INFO  chord] connection 0 protocol\n[WARN  chord] connection 0 sent HTTP or a byte 0 to the port of Redis's protocol: a web page may have tried to reach the store\n";
+    check!(&rt; noted.as_slice() == wanted.as_bytes());
+    Ok(())
 }
 
 /// How often a server that takes some connections reads each of them.

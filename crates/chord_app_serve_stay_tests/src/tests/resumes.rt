@@ -208,11 +208,11 @@ const PENDING: u8 = 0;
 /// That of the last session. The others have those between, in the order in which they begin.
 const LAST: u8 = 200;
 
-/// How many callers their server has: one is the pending session's.
+/// How many callers their server has.
 const CALLERS: u64 = 64;
 
 /// The last byte of the token of the last session that is dropped for another one's caller.
-const LAST_DROPPED: u8 = 137;
+const LAST_DROPPED: u8 = 136;
 
 /// Does what a client does over a connection of its own.
 fn does<R: Net>(
@@ -273,10 +273,10 @@ fn begins_all<R: Net + Wait + Clock>(rt: &R, alloc: Global, address: SocketAddr)
     Ok(())
 }
 
-/// Resumes all sessions, one after another. The oldest were dropped, but for the pending one, whose
-/// insert acts once there is room.
+/// Resumes all sessions, one after another. The oldest were dropped, also the one whose insert found
+/// the store full, so that it does not act once there is room.
 fn resumes_all<R: Net>(rt: &R, alloc: Global, address: SocketAddr) -> io::Result<()> {
-    for token in 1..=LAST {
+    for token in PENDING..=LAST {
         if token <= LAST_DROPPED {
             finds_none(rt, alloc, address, token)?;
         } else {
@@ -284,18 +284,15 @@ fn resumes_all<R: Net>(rt: &R, alloc: Global, address: SocketAddr) -> io::Result
             asks_once(rt, alloc, address, resumed(token), present)?;
         }
     }
-    let full = (Ask::Insert(b"y"), Answer::Fault(FaultCode::Full));
-    asks_once(rt, alloc, address, resumed(PENDING), full)?;
     let room = [
         (0, resumed(LAST)),
         (0, Act::CallIn(2, 1, Ask::Remove(b"x"), Answer::Removed)),
+        (0, Act::CallIn(3, 2, Ask::Retrieve, Answer::Values(&[]))),
         (0, Act::Close),
         (0, Act::Closed),
         (0, Act::End),
     ];
-    does(rt, alloc, address, &room)?;
-    let added = (Ask::Insert(b"y"), Answer::Added);
-    asks_once(rt, alloc, address, resumed(PENDING), added)
+    does(rt, alloc, address, &room)
 }
 
 /// Begins all sessions and resumes them.
@@ -311,7 +308,7 @@ fn begins_and_resumes<R: Net + Wait + Clock>(
 /// The line for each connection.
 fn lines(alloc: Global) -> Result<String, AllocError> {
     let mut lines = String::new(alloc);
-    for number in 0..405u32 {
+    for number in 0..404u32 {
         let is_refused = (202..339).contains(&number);
         let line = if is_refused {
             format!(in alloc; "connection {number} malformed 14\n")?
@@ -323,7 +320,7 @@ fn lines(alloc: Global) -> Result<String, AllocError> {
     Ok(lines)
 }
 
-/// Two hundred sessions and a pending one lose their connections on a server of 64 callers.
+/// Two hundred sessions and one with a pending request lose their connections on a server of 64 callers.
 #[test]
 fn old_sessions_are_dropped_in_order(rt: HostRuntime) -> Result<(), Fail> {
     let alloc = rt.alloc();

@@ -112,10 +112,9 @@ fn a_caller_that_is_taken(rt: HostRuntime) -> Result<(), Fail> {
     Ok(())
 }
 
-/// A client leaves with a request that found the store full, so its caller stays pending; while the
-/// second client is served, a third finds no caller. Once there is room that caller serves again: a
-/// fourth client sees that the request was executed, and finds the store full, twice, until there
-/// is room again.
+/// A client leaves with a request that found the store full. Its caller, the only one, serves the
+/// next client at once. That one finds the store full too, makes room over the same connection, and
+/// sees that neither request acted.
 const FULL_AND_AGAIN: Script = Script {
     first: &[
         (0, Act::Connect),
@@ -127,38 +126,23 @@ const FULL_AND_AGAIN: Script = Script {
         (0, Act::Leave),
         (1, Act::Connect),
         (1, Act::Call(1, Ask::Insert(b"x"), Answer::Present)),
-        (2, Act::Connect),
-        (2, Act::Hear(0, Answer::Fault(FaultCode::CallersSpent))),
-        (2, Act::End),
-        (1, Act::Call(2, Ask::Remove(b"x"), Answer::Removed)),
-        (3, Act::Connect),
-        (3, Act::Call(1, Ask::Retrieve, Answer::Values(&[b"y"]))),
         (
-            3,
+            1,
             Act::Call(2, Ask::Insert(b"z"), Answer::Fault(FaultCode::Full)),
         ),
-        (
-            3,
-            Act::Call(2, Ask::Insert(b"z"), Answer::Fault(FaultCode::Full)),
-        ),
-        (1, Act::Call(3, Ask::Remove(b"y"), Answer::Removed)),
-        (3, Act::Call(2, Ask::Insert(b"z"), Answer::Added)),
-        (3, Act::Leave),
+        (1, Act::Call(3, Ask::Remove(b"x"), Answer::Removed)),
+        (1, Act::Call(4, Ask::Retrieve, Answer::Values(&[]))),
+        (1, Act::Call(5, Ask::Insert(b"z"), Answer::Added)),
         (1, Act::Leave),
     ],
     ..NOTHING
 };
 
-/// A caller with a pending request serves again only once that is answered.
+/// A request that got no reply keeps neither its caller nor its connection.
 #[test]
-fn a_pending_request(rt: HostRuntime) -> Result<(), Fail> {
-    let wanted =
-        "connection 0 ended\nconnection 2 callersspent\nconnection 3 ended\nconnection 1 ended\n";
-    let size = Size {
-        callers: 2,
-        room: 1,
-        ..SMALL
-    };
+fn a_request_is_given_up(rt: HostRuntime) -> Result<(), Fail> {
+    let wanted = "connection 0 ended\nconnection 1 ended\n";
+    let size = Size { room: 1, ..SMALL };
     let server = (size, WAITS);
     let found = follow(
         &rt,
