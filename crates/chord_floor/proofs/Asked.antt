@@ -101,7 +101,7 @@ executes sent node after taken out call was step done e = absurd (none-some done
 
 -- all that was asked and executed
 
--- the caller submitted at least so many calls
+-- the caller submitted at least this number of calls
 pub record Submitted (callers : List Caller) (number place : ℕ) : Type 0 where
   pub caller : Caller
   pub is_caller : caller_at number callers ≡ Some caller
