@@ -1,5 +1,5 @@
 -- A message that came is among those that a seat shows.
-use Rattle.std.proofs.Common.{◌≡◌, [], ◌∷◌, ◌++◌, Option, Some, sym, subst, Contains}
+use Rattle.std.proofs.Common.{◌≡◌, [], ◌∷◌, ◌++◌, Bool, Option, Some, sym, subst, Contains}
 use Rattle.std.proofs.lemmas.List.Elements.{Contains-push}
 use Rattle.chord_live_ring.specs.Seats.{IsSeatOf}
 use Rattle.chord_live_steps.specs.Dealt.{message_in}
@@ -25,5 +25,6 @@ acted old new envelope message node after out sent is same mine goes (done, step
 )
 
 -- the node that a seat shows which is not lent
-pub shown_by : (node : Node) (seat : Option NodeSight) (sight : NodeSight) → seat ≡ Some sight → IsSeatOf node seat → node ≡ sight.node
-shown_by node seat sight is shows = subst (λ (s : Option NodeSight). IsSeatOf node s) is shows
+pub shown_by : (node : Node) (crashed : Bool) (seat : Option NodeSight) (sight : NodeSight) → seat ≡ Some sight → IsSeatOf node crashed seat
+    → (node ≡ sight.node) × (crashed ≡ sight.crashed)
+shown_by node crashed seat sight is shows = subst (λ (s : Option NodeSight). IsSeatOf node crashed s) is shows

@@ -1,5 +1,5 @@
 -- Events of a node that leave its place in the ring as it is.
-use Rattle.std.proofs.Common.{◌≡◌, false, Some, None, refl, sym, ap, ◌∙◌}
+use Rattle.std.proofs.Common.{◌≡◌, Bool, true, false, Some, None, refl, sym, ap, ◌∙◌}
 use Rattle.chord_links.specs.NodeLinks.{NodeLinks}
 use Rattle.chord_model.specs.declared.phase.Phase.{Phase}
 use Rattle.chord_model.specs.declared.phase.Phase.TheVariants as phase
@@ -13,11 +13,13 @@ same_phase phase.Leaving a b same = ap (λ (l : NodeLinks). Some l) same
 same_phase phase.Gone a b same = refl
 
 -- the phase stays, and the links but for the fingers
-pub place_kept : (old new : Node) → new.phase ≡ old.phase → bare new.links ≡ bare old.links → place_of false new ≡ place_of false old
-place_kept old new phase_is links_are =
+pub place_kept : (crashed : Bool) (old new : Node) → new.phase ≡ old.phase → bare new.links ≡ bare old.links → place_of crashed new ≡ place_of crashed old
+place_kept true old new phase_is links_are = refl
+place_kept false old new phase_is links_are =
     ap (λ p. links_in false p new.links) phase_is ∙ same_phase old.phase new.links old.links links_are
 
 -- a staying node begins to leave
-pub place_left : (old new : Node) → old.phase ≡ phase.Staying → new ≡ record old { phase = phase.Leaving } → place_of false new ≡ place_of false old
-place_left old new stays is =
+pub place_left : (crashed : Bool) (old new : Node) → old.phase ≡ phase.Staying → new ≡ record old { phase = phase.Leaving } → place_of crashed new ≡ place_of crashed old
+place_left true old new stays is = refl
+place_left false old new stays is =
     ap (λ (n : Node). place_of false n) is ∙ sym (ap (λ p. links_in false p old.links) stays)

@@ -4,12 +4,34 @@ use Rattle.std.specs.Prelude.{is_some}
 use Rattle.chord_ident.specs.Circle.{IsBetween}
 use Rattle.chord_links.specs.NodeLinks.{NodeLinks, first_entry}
 use Rattle.chord_links.specs.declared.peer.Peer.{Peer}
-use Rattle.chord_live_ring.specs.Seats.{HasPredecessor}
+use Rattle.chord_live_ring.specs.Seats.{HasPredecessor, is_in}
+use Rattle.chord_live_ring.specs.Sights.{Seated, is_member}
+use Rattle.chord_model.specs.declared.phase.Phase.{Phase}
 use Rattle.chord_model.specs.declared.phase.Phase.TheVariants.{Gone}
+use Rattle.chord_model.specs.declared.phase.Phase.TheVariants as phase
 use Rattle.chord_model.specs.Node.{Node}
 use Rattle.chord_ring.specs.Steps.{gives_way, links_behind, rectified_links, without_head}
 use Rattle.chord_table.proofs.Relinks.{alone_may, candidate_may, drop_may, first_may, rectify_may, stabilise_may}
 use Rattle.chord_table.specs.Views.{MayRelink}
+
+-- a member did not crash and is not gone
+pub in_live : (crashed : Bool) (p : Phase) → is_in crashed p ≡ true → (crashed ≡ false) × (p ≢ Gone)
+in_live true p e = cc
+in_live false phase.Staying e = (refl, λ g. cc)
+in_live false phase.Leaving e = (refl, λ g. cc)
+in_live false phase.Gone e = cc
+
+-- and another node did
+pub in_out : (crashed : Bool) (p : Phase) → is_in crashed p ≡ false → (crashed ≡ true) ⊎ (p ≡ Gone)
+in_out true p e = inl refl
+in_out false phase.Staying e = cc
+in_out false phase.Leaving e = cc
+in_out false phase.Gone e = inr refl
+
+-- what a node may do beside one that did not crash it may do beside a member
+pub beside : (mine new : Node) (seated : Seated) → is_member seated ≡ true → MayRelink mine seated.node false new → MayRelink mine seated.node seated.crashed new
+beside mine new seated member may =
+    subst (λ (c : Bool). MayRelink mine seated.node c new) (sym (in_live seated.crashed seated.node.phase member).0) may
 
 -- one that gives way while it is live gives way in any case
 gives_always : (me notifier : Peer) (predecessor : Option Peer) → gives_way me notifier true predecessor ≡ true → (live : Bool) → gives_way me notifier live predecessor ≡ true

@@ -1,5 +1,5 @@
 -- What the calls of a node with its seat tell, and what they leave of it. Source: our own.
-use Rattle.std.specs.Prelude.{◌≡◌, ◌≢◌, ◌⊎◌, ℕ, Bool, Option, None, Some, Ok, Err, []}
+use Rattle.std.specs.Prelude.{◌≡◌, ◌⊎◌, ℕ, Bool, Option, None, Some, Ok, Err}
 use Rattle.std.specs.declared.alloc.AllocError.{AllocError}
 use Rattle.chord_handover.specs.Handover.{Item, Part}
 use Rattle.chord_ident.specs.declared.id.Id.{Id}
@@ -11,12 +11,11 @@ use Rattle.chord_live_steps.specs.Pieces.{TrimIs}
 use Rattle.chord_model.specs.Node.{Node}
 use Rattle.chord_model.specs.declared.message.Message.{Message}
 use Rattle.chord_model.specs.declared.message.Message.TheVariants.{Part as PartMessage}
-use Rattle.chord_model.specs.declared.phase.Phase.TheVariants.{Leaving}
+use Rattle.chord_model.specs.declared.phase.Phase.{Phase}
+use Rattle.chord_model.specs.declared.phase.Phase.TheVariants as phase
 use Rattle.chord_node.specs.Moves.{GiveIs}
 use Rattle.chord_node.specs.declared.fault.GiveFault.{GiveFault}
 use Rattle.chord_node.specs.declared.fault.GiveFault.TheVariants as give
-use Rattle.chord_node.specs.declared.fault.RetireFault.{RetireFault}
-use Rattle.chord_node.specs.declared.fault.RetireFault.TheVariants as retire
 
 -- the node with other links; what came to it and what it did stay
 abbrev pub with_links : NodeLinks → Seated → Seated
@@ -56,8 +55,12 @@ abbrev pub address_of : Option Item → Option (ℕ × ℕ)
 address_of None = None
 address_of (Some item) = Some (item.to, item.number)
 
--- why a node would refuse to retire, if it would
-abbrev pub RetirementIs : Node → Option RetireFault → Type 0
-RetirementIs node None = (node.phase ≡ Leaving) × (node.held ≡ []) × (node.outbox ≡ [])
-RetirementIs node (Some retire.NotLeaving) = node.phase ≢ Leaving
-RetirementIs node (Some retire.NotEmpty) = (node.phase ≡ Leaving) × ((node.held ≢ []) ⊎ (node.outbox ≢ []))
+-- the phase of a node that begins to leave, unless it does so already or is gone
+abbrev pub begun : Phase → Phase
+begun phase.Staying = phase.Leaving
+begun phase.Leaving = phase.Leaving
+begun phase.Gone = phase.Gone
+
+-- the node while it is rescued: it hands over what it holds, as one that leaves
+abbrev pub rescued : Seated → Seated
+rescued seated = record seated { node = record seated.node { phase = begun seated.node.phase } }

@@ -23,13 +23,25 @@ use Rattle.chord_node.specs.Pages.{PairsFromIs}
 use Rattle.chord_segment.specs.Segment.{Segment}
 use Rattle.chord_sight.specs.declared.phase.Phase.{Phase}
 use Rattle.chord_sight.specs.declared.phase.Phase.TheVariants as seen
+use Rattle.chord_live_ring.specs.Seats.{is_in}
 use Rattle.chord_table.specs.Shown.{NodeShown}
+use Rattle.chord_table.specs.Views.{NodeSight as NodeShows}
 
--- a node with its seat: the node and the messages that its seat shows, and what it did
+-- a node with its seat: the node, whether it crashed and the messages that its seat shows, and what
+-- it did
 pub record Seated : Type 0 where
   pub node : Node
+  pub crashed : Bool
   pub messages : List Message
   pub counts : NodeCounts
+
+-- whether the node is a member of the ring
+abbrev pub is_member : Seated → Bool
+is_member seated = is_in seated.crashed seated.node.phase
+
+-- what its seat shows
+abbrev pub shown_of : Seated → NodeShows
+shown_of seated = record { node = seated.node; crashed = seated.crashed; messages = seated.messages }
 
 -- the kind of a message, if there is one
 abbrev pub kind_in : Option Message → Option MessageKind
@@ -52,12 +64,15 @@ segment_sight segment = record { span = segment.span; kept = capped (length segm
 abbrev pub outbox_sight : Item → OutboxSight
 outbox_sight item = record { to = item.to; number = item.number; span = item.segment.span; pairs = length item.pairs }
 
--- the phase of a node that crashed or not
-abbrev pub phase_seen : Bool → NodePhase → Phase
-phase_seen true before = seen.Crashed
-phase_seen false phase.Staying = seen.Staying
-phase_seen false phase.Leaving = seen.Leaving
-phase_seen false phase.Gone = seen.Gone
+-- the phase of a node that acts or does not, and crashed or not: one that crashed and acts is being
+-- rescued
+abbrev pub phase_seen : Bool → Bool → NodePhase → Phase
+phase_seen false crashed before = seen.Crashed
+phase_seen true crashed phase.Gone = seen.Gone
+phase_seen true true phase.Staying = seen.Rescuing
+phase_seen true true phase.Leaving = seen.Rescuing
+phase_seen true false phase.Staying = seen.Staying
+phase_seen true false phase.Leaving = seen.Leaving
 
 -- the number of another node, if one is known
 abbrev pub number_in : Option Peer → Option ℕ
@@ -100,11 +115,11 @@ look_in sight = record {
 }
 
 -- the sight of a node: all its segments, and all items of its outbox, in order
-abbrev pub sight_of : Bool → Node → NodeCounts → NodeLook
-sight_of crashed node counts = record {
+abbrev pub sight_of : Phase → Node → NodeCounts → NodeLook
+sight_of seen node counts = record {
   number = node.number;
   id = node.links.me.id;
-  phase = phase_seen crashed node.phase;
+  phase = seen;
   predecessor = number_in node.links.predecessor;
   successors = numbers_of node.links.entries;
   fingers = known_fingers node.links.fingers;
@@ -114,21 +129,25 @@ sight_of crashed node counts = record {
   counts = counts;
 }
 
--- the sight of what is in a slot with this node
+-- the same of a node with its seat, which acts or does not
+abbrev pub seated_look : Bool → Seated → NodeLook
+seated_look acts seated = sight_of (phase_seen acts seated.crashed seated.node.phase) seated.node seated.counts
+
+-- the sight of what is in a slot with this node, which acts or does not
 abbrev pub SightIs : Bool → Seated → Option NodeSight → Type 0
-SightIs crashed seated None = ⊥
-SightIs crashed seated (Some sight) = look_in sight ≡ sight_of crashed seated.node seated.counts
+SightIs acts seated None = ⊥
+SightIs acts seated (Some sight) = look_in sight ≡ seated_look acts seated
 
 -- some reachable world, of which the theorem holds, has a node of this number that looks so
 abbrev pub IsSightOf : ℕ → NodeSight → Type 0
 IsSightOf number sight =
-    (seated : Seated) × (crashed : Bool) × NodeShown (record { node = seated.node; messages = seated.messages }) × (seated.node.number ≡ number) × (look_in sight ≡ sight_of crashed seated.node seated.counts)
+    (seated : Seated) × (acts : Bool) × NodeShown (shown_of seated) × (seated.node.number ≡ number) × (look_in sight ≡ seated_look acts seated)
 
 -- some reachable world, of which the theorem holds, has a node of this number whose pairs from this
 -- identifier on are those of the page
 abbrev pub IsPageShown : ℕ → Id → ℕ → PairsPage → Type 0
 IsPageShown number first limit page =
-    (seated : Seated) × NodeShown (record { node = seated.node; messages = seated.messages }) × (seated.node.number ≡ number) × PairsFromIs first limit seated.node (Some page)
+    (seated : Seated) × NodeShown (shown_of seated) × (seated.node.number ≡ number) × PairsFromIs first limit seated.node (Some page)
 
 -- the items of an outbox before this index do not hand x over
 abbrev pub NoneGives : ℕ → List Item → ℕ → Type 0

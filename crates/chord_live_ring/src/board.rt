@@ -1,6 +1,6 @@
 //! The links of all members, while a departure is judged.
-ghost use Rattle.std.specs.Prelude.{◌≡◌, ◌<◌, ◌++◌, ◌∷◌, [], None, IfOk, length};
-ghost use Rattle.chord_live_ring.specs.Departures.{placed};
+ghost use Rattle.std.specs.Prelude.{◌≡◌, ◌<◌, ◌++◌, ◌∷◌, [], IfOk, length};
+ghost use Rattle.chord_table.specs.Scenes.{place_of};
 
 use chord_links::Links;
 use chord_node::{Node, Phase};
@@ -47,20 +47,12 @@ impl<J: Naming> Board<J> {
         self.rows.clear();
     }
 
-    /// Posts a node that did not crash.
-    pub(crate) fn post<S: EntryStore>(&mut self, node: &Node<S>)
+    /// Posts a node, which crashed or not.
+    pub(crate) fn post<S: EntryStore>(&mut self, node: &Node<S>, crashed: bool)
         requires { length self.old < J.name.slots }
-        ensures { self.new ≡ self.old ++ placed node.now ∷ [] }
+        ensures { self.new ≡ self.old ++ place_of crashed node.now ∷ [] }
     {
-        self.rows.push_reserved(place_of(node));
-    }
-
-    /// Posts a node that crashed.
-    pub(crate) fn post_none(&mut self)
-        requires { length self.old < J.name.slots }
-        ensures { self.new ≡ self.old ++ None ∷ [] }
-    {
-        self.rows.push_reserved(None);
+        self.rows.push_reserved(place_of(node, crashed));
     }
 
     /// The rows.
@@ -71,11 +63,11 @@ impl<J: Naming> Board<J> {
     }
 }
 
-/// What the ring has of a node that did not crash: its links without fingers, unless it is gone.
-fn place_of<S: EntryStore>(node: &Node<S>) -> Option<Links>
-    ensures { result ≡ placed node.now }
+/// What the ring has of a node: its links without fingers, unless it crashed or is gone.
+fn place_of<S: EntryStore>(node: &Node<S>, crashed: bool) -> Option<Links>
+    ensures { result ≡ place_of crashed node.now }
 {
-    if node.phase() == Phase::Gone {
+    if crashed || node.phase() == Phase::Gone {
         return None;
     }
     let links = node.links();

@@ -6,7 +6,6 @@ ghost use Rattle.chord_live_ring.specs.Closings.{AreInOrder};
 ghost use Rattle.chord_table.specs.Shown.{AssemblyShown, WholeShown};
 ghost use Rattle.chord_table.specs.Views.{CallerSight, callers_among};
 
-use crate::crashed_node::CrashedNode;
 use crate::register::Register;
 use crate::returned_caller::ReturnedCaller;
 use crate::ring::Ring;
@@ -70,18 +69,6 @@ impl<J: Naming> Gathering<J> {
         self.nodes = nodes;
     }
 
-    /// Takes in the seat of a node that crashed, which is dropped.
-    fn take_crashed<S: EntryStore>(&mut self, table: &Shared<J>, crashed: CrashedNode<J, S>)
-        ensures register { self.new.seats.register ≡ self.old.seats.register }
-        ensures callers { callers_among self.new.seats.taken ≡ callers_among self.old.seats.taken }
-    {
-        let number = crashed.number();
-        self.seats.take_crashed(table, crashed.into_seat());
-        let (is_in_order, nodes) = next_count(self.is_in_order, self.nodes, number);
-        self.is_in_order = is_in_order;
-        self.nodes = nodes;
-    }
-
     /// Takes in the seat of a caller.
     fn take_caller(&mut self, table: &Shared<J>, caller: ReturnedCaller<J>)
         ensures register { self.new.seats.register ≡ self.old.seats.register }
@@ -112,8 +99,7 @@ impl<J: Naming> Gathering<J> {
         drop(envelopes);
         match state.into_inner() {
             SlotState::Vacant => {}
-            SlotState::Here(seated) => self.take_node(table, seated),
-            SlotState::Crashed(crashed) => self.take_crashed(table, crashed),
+            SlotState::Here(seated) | SlotState::Crashed(seated) => self.take_node(table, seated),
         }
     }
 

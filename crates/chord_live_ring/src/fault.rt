@@ -29,6 +29,19 @@ pub enum CrashFault {
     Unsafe,
 }
 
+/// Why a node is not rescued.
+#[derive(Clone, Copy, Debug, PartialEq, Eq, Error)]
+pub enum RescueFault {
+    #[error("no node has the number")]
+    NoSuchNode,
+    #[error("the node did not crash, or is rescued already")]
+    NotCrashed,
+    #[error("no node stays that could take over what it holds")]
+    NoMember,
+    #[error("the ring is stopped")]
+    Stopped,
+}
+
 /// Why a node does not depart.
 #[derive(Clone, Copy, Debug, PartialEq, Eq)]
 pub(crate) enum DepartFault {

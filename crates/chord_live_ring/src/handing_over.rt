@@ -36,16 +36,17 @@ const PARTS_A_TICK: u64 = 16;
 
 impl<J: Naming, S: EntryStore> Ring<J, S> {
     /// Gives a piece of the held segment at this index, which ends here, to the node that it
-    /// belongs to, if that stays.
+    /// belongs to as a lookup from `via` finds it, if that stays.
     pub(crate) fn give_to_holder(
         &self,
         rt: &impl Wait,
         number: u64,
+        via: u64,
         place: usize,
         end: Id,
     ) -> Result<Round, AllocError> {
         let reader = RingReader { ring: self, rt };
-        let Ok(peer) = find_successor(&reader, number, end) else {
+        let Ok(peer) = find_successor(&reader, via, end) else {
             return Ok(Round::Quiet);
         };
         if peer.number == number || self.phase_of(rt, peer.number) != Some(Phase::Staying) {
@@ -139,8 +140,8 @@ impl<J: Naming, S: EntryStore> Ring<J, S> {
         }
     }
 
-    /// The end of a leaving node's first held segment.
-    fn end_at_leaving(&self, rt: &impl Wait, number: u64) -> Option<Id> {
+    /// The end of the first held segment of a node that is leaving or rescued.
+    pub(crate) fn end_at_leaving(&self, rt: &impl Wait, number: u64) -> Option<Id> {
         let slot = self.slots.get(number as usize)?;
         match &*slot.state.lock(rt) {
             SlotState::Here(seated) => {

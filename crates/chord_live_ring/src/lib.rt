@@ -14,7 +14,6 @@ mod board;
 mod carried;
 mod closing;
 mod counting;
-mod crashed_node;
 mod deed;
 mod departing;
 mod fault;
@@ -25,6 +24,7 @@ mod moment;
 mod probe;
 mod reader;
 mod register;
+mod rescuing;
 mod resting;
 mod returned_caller;
 mod ring;
@@ -43,7 +43,7 @@ pub use chord_live_types::{
     TickFault,
 };
 pub use closing::Closed;
-pub use fault::{CrashFault, RingRetireFault};
+pub use fault::{CrashFault, RescueFault, RingRetireFault};
 pub use probe::{NoProbe, Probe};
 pub use returned_caller::ReturnedCaller;
 pub use ring::Ring;

@@ -1,14 +1,13 @@
 //! The steps of the ring that a node takes beside another node, while both nodes are locked.
-ghost use Rattle.std.specs.Prelude.{◌≡◌, ◌≢◌, ◌↔◌, ◌<◌, length, true, false, None, Some, IsTrue, IsOk, IfOk, IfSome, IfErr, OnOk, OnErr};
+ghost use Rattle.std.specs.Prelude.{◌≡◌, ◌↔◌, ◌<◌, length, true, false, None, Some, IsTrue, IsOk, IfOk, IfSome, IfErr, OnOk, OnErr};
 ghost use Rattle.chord_ident.specs.Circle.{IsBetween};
 ghost use Rattle.chord_links.specs.NodeLinks.{first_entry};
 ghost use Rattle.chord_live_ring.specs.SeatedCalls.{with_links};
 ghost use Rattle.chord_live_ring.specs.Seats.{HasPredecessor};
-ghost use Rattle.chord_model.specs.declared.phase.Phase.TheVariants.{Gone};
+ghost use Rattle.chord_live_ring.specs.Sights.{is_member};
 ghost use Rattle.chord_ring.specs.Steps.{candidate_of, gives_way, links_behind, rectified_links, without_head};
 ghost use Rattle.chord_table.specs.Views.{MayRelink};
 
-use crate::crashed_node::CrashedNode;
 use crate::seated_node::SeatedNode;
 use crate::slot::LinkStep;
 use chord_links::{Links, Peer};
@@ -18,18 +17,22 @@ use chord_store::EntryStore;
 use chord_table::{Naming, Shared};
 
 impl<J: Naming, S: EntryStore> SeatedNode<J, S> {
-    /// Whether the node is a member of the ring, since it is not gone.
+    /// Whether the node is a member of the ring: it neither crashed nor is gone.
     pub fn is_member(&self) -> bool
-        ensures { (result ≡ false) ↔ (self.now.node.phase ≡ Gone) }
+        ensures { result ≡ is_member self.now }
     {
-        self.node.phase() != Phase::Gone
+        match self.node.phase() {
+            Phase::Staying | Phase::Leaving => !self.crashed,
+            Phase::Gone => false,
+        }
     }
 
     /// Gives the node other links beside another node.
     fn relink(&mut self, table: &Shared<J>, other: &mut SeatedNode<J, S>, links: Links)
+        requires live { self.old.crashed ≡ false }
         requires me { links.me ≡ self.old.node.links.me }
         requires r { links.r ≡ self.old.node.links.r }
-        requires step { MayRelink self.old.node other.old.node false (record self.old.node { links = links }) }
+        requires step { MayRelink self.old.node other.old.node other.old.crashed (record self.old.node { links = links }) }
         ensures done { self.new ≡ with_links links self.old }
         ensures other { other.new ≡ other.old }
     {
@@ -43,29 +46,6 @@ impl<J: Naming, S: EntryStore> SeatedNode<J, S> {
         seat.relink(table, theirs, &self.node);
     }
 
-    /// The same beside a node that crashed.
-    fn relink_beside_crashed(
-        &mut self,
-        table: &Shared<J>,
-        other: &mut CrashedNode<J, S>,
-        links: Links,
-    )
-        requires me { links.me ≡ self.old.node.links.me }
-        requires r { links.r ≡ self.old.node.links.r }
-        requires step { MayRelink self.old.node other.old.node true (record self.old.node { links = links }) }
-        ensures done { self.new ≡ with_links links self.old }
-        ensures other { other.new ≡ other.old }
-    {
-        let Some(seat) = &mut self.seat else {
-            unreachable!()
-        };
-        let Some(theirs) = &mut other.seat else {
-            unreachable!()
-        };
-        self.node.set_links(links);
-        seat.relink_beside_crashed(table, theirs, &self.node);
-    }
-
     /// Copies the list of the node's first entry. Gives that entry's predecessor if it lies between
     /// the node and the entry.
     pub fn stabilise(
@@ -73,11 +53,11 @@ impl<J: Naming, S: EntryStore> SeatedNode<J, S> {
         table: &Shared<J>,
         head: &mut SeatedNode<J, S>,
     ) -> Result<Option<Peer>, StabiliseFault>
-        requires live { self.old.node.phase ≢ Gone }
-        ensures variant { IsOk result ↔ ((head.old.node.phase ≢ Gone) × (first_entry self.old.node.links ≡ head.old.node.links.me)) }
+        requires live { is_member self.old ≡ true }
+        ensures variant { IsOk result ↔ ((is_member head.old ≡ true) × (first_entry self.old.node.links ≡ head.old.node.links.me)) }
         ensures ok { IfOk result (λ candidate. candidate ≡ candidate_of self.old.node.links head.old.node.links) }
         ensures done { OnOk result (self.new ≡ with_links (links_behind self.old.node.links head.old.node.links) self.old) }
-        ensures fault { IfErr result (λ fault. (fault ≡ StabiliseFault.HeadDead) ↔ (head.old.node.phase ≡ Gone)) }
+        ensures fault { IfErr result (λ fault. (fault ≡ StabiliseFault.HeadDead) ↔ (is_member head.old ≡ false)) }
         ensures err { OnErr result (self.new ≡ self.old) }
         ensures links { self.new ≡ with_links self.new.node.links self.old }
         ensures head { head.new ≡ head.old }
@@ -95,11 +75,11 @@ impl<J: Naming, S: EntryStore> SeatedNode<J, S> {
         table: &Shared<J>,
         candidate: &mut SeatedNode<J, S>,
     ) -> Result<(), CandidateFault>
-        requires live { self.old.node.phase ≢ Gone }
-        ensures variant { IsOk result ↔ ((candidate.old.node.phase ≢ Gone)
+        requires live { is_member self.old ≡ true }
+        ensures variant { IsOk result ↔ ((is_member candidate.old ≡ true)
             × IsBetween self.old.node.links.me.id.number candidate.old.node.links.me.id.number (first_entry self.old.node.links).id.number) }
         ensures done { OnOk result (self.new ≡ with_links (links_behind self.old.node.links candidate.old.node.links) self.old) }
-        ensures fault { IfErr result (λ fault. (fault ≡ CandidateFault.Dead) ↔ (candidate.old.node.phase ≡ Gone)) }
+        ensures fault { IfErr result (λ fault. (fault ≡ CandidateFault.Dead) ↔ (is_member candidate.old ≡ false)) }
         ensures err { OnErr result (self.new ≡ self.old) }
         ensures links { self.new ≡ with_links self.new.node.links self.old }
         ensures candidate { candidate.new ≡ candidate.old }
@@ -127,11 +107,11 @@ impl<J: Naming, S: EntryStore> SeatedNode<J, S> {
         }
     }
 
-    /// Drops the first entry if it is this node, which is gone, and there is another. Says whether
-    /// it did.
-    pub fn drop_gone(&mut self, table: &Shared<J>, head: &mut SeatedNode<J, S>) -> bool
-        requires live { self.old.node.phase ≢ Gone }
-        ensures variant { (result ≡ true) ↔ ((head.old.node.phase ≡ Gone) × ((first_entry self.old.node.links).number ≡ head.old.node.number)
+    /// Drops the first entry if it is this node, which is no member, and there is another. Says
+    /// whether it did.
+    pub fn drop_departed(&mut self, table: &Shared<J>, head: &mut SeatedNode<J, S>) -> bool
+        requires live { is_member self.old ≡ true }
+        ensures variant { (result ≡ true) ↔ ((is_member head.old ≡ false) × ((first_entry self.old.node.links).number ≡ head.old.node.number)
             × (1 < length self.old.node.links.entries)) }
         ensures done { result ≡ true → self.new ≡ with_links (without_head self.old.node.links) self.old }
         ensures kept { result ≡ false → self.new ≡ self.old }
@@ -150,30 +130,11 @@ impl<J: Naming, S: EntryStore> SeatedNode<J, S> {
         }
     }
 
-    /// The same of a node that crashed.
-    pub fn drop_crashed(&mut self, table: &Shared<J>, head: &mut CrashedNode<J, S>) -> bool
-        requires live { self.old.node.phase ≢ Gone }
-        ensures variant { (result ≡ true) ↔ (((first_entry self.old.node.links).number ≡ head.old.node.number)
-            × (1 < length self.old.node.links.entries)) }
-        ensures done { result ≡ true → self.new ≡ with_links (without_head self.old.node.links) self.old }
-        ensures kept { result ≡ false → self.new ≡ self.old }
-        ensures links { self.new ≡ with_links self.new.node.links self.old }
-        ensures head { head.new ≡ head.old }
-    {
-        match self.links_without(head.number()) {
-            Some(links) => {
-                self.relink_beside_crashed(table, head, links);
-                true
-            }
-            None => false,
-        }
-    }
-
     /// Takes another member as the predecessor, if the node has none or one that is farther. Says
     /// whether it did.
     pub fn rectify(&mut self, table: &Shared<J>, notifier: &mut SeatedNode<J, S>) -> bool
-        requires live { self.old.node.phase ≢ Gone }
-        requires notifier_live { notifier.old.node.phase ≢ Gone }
+        requires live { is_member self.old ≡ true }
+        requires notifier_live { is_member notifier.old ≡ true }
         ensures answer { result ≡ gives_way self.old.node.links.me notifier.old.node.links.me true self.old.node.links.predecessor }
         ensures done { self.new ≡ with_links (rectified_links self.old.node.links notifier.old.node.links.me result) self.old }
         ensures links { self.new ≡ with_links self.new.node.links self.old }
@@ -204,11 +165,11 @@ impl<J: Naming, S: EntryStore> SeatedNode<J, S> {
         }
     }
 
-    /// Takes itself as its predecessor, if its predecessor is this node, which is gone: the next
-    /// notifier is nearer then. Says whether it did.
-    pub fn forget_gone(&mut self, table: &Shared<J>, old: &mut SeatedNode<J, S>) -> bool
-        requires live { self.old.node.phase ≢ Gone }
-        ensures variant { (result ≡ true) ↔ ((old.old.node.phase ≡ Gone) × HasPredecessor old.old.node.number self.old.node.links.predecessor) }
+    /// Takes itself as its predecessor, if its predecessor is this node, which is no member: the
+    /// next notifier is nearer then. Says whether it did.
+    pub fn forget_departed(&mut self, table: &Shared<J>, old: &mut SeatedNode<J, S>) -> bool
+        requires live { is_member self.old ≡ true }
+        ensures variant { (result ≡ true) ↔ ((is_member old.old ≡ false) × HasPredecessor old.old.node.number self.old.node.links.predecessor) }
         ensures done { result ≡ true → self.new ≡ with_links (rectified_links self.old.node.links self.old.node.links.me true) self.old }
         ensures kept { result ≡ false → self.new ≡ self.old }
         ensures links { self.new ≡ with_links self.new.node.links self.old }
@@ -226,27 +187,9 @@ impl<J: Naming, S: EntryStore> SeatedNode<J, S> {
         }
     }
 
-    /// The same of a node that crashed.
-    pub fn forget_crashed(&mut self, table: &Shared<J>, old: &mut CrashedNode<J, S>) -> bool
-        requires live { self.old.node.phase ≢ Gone }
-        ensures variant { (result ≡ true) ↔ HasPredecessor old.old.node.number self.old.node.links.predecessor }
-        ensures done { result ≡ true → self.new ≡ with_links (rectified_links self.old.node.links self.old.node.links.me true) self.old }
-        ensures kept { result ≡ false → self.new ≡ self.old }
-        ensures links { self.new ≡ with_links self.new.node.links self.old }
-        ensures old { old.new ≡ old.old }
-    {
-        match self.links_alone(old.number()) {
-            Some(links) => {
-                self.relink_beside_crashed(table, old, links);
-                true
-            }
-            None => false,
-        }
-    }
-
     /// Takes itself as its predecessor, if it has none. Says whether it did.
     pub fn stand_alone(&mut self, table: &Shared<J>) -> bool
-        requires live { self.old.node.phase ≢ Gone }
+        requires live { is_member self.old ≡ true }
         ensures variant { (result ≡ true) ↔ (self.old.node.links.predecessor ≡ None) }
         ensures done { result ≡ true → self.new ≡ with_links (rectified_links self.old.node.links self.old.node.links.me true) self.old }
         ensures kept { result ≡ false → self.new ≡ self.old }
@@ -281,7 +224,7 @@ impl<J: Naming, S: EntryStore> SeatedNode<J, S> {
         }
         match step {
             LinkStep::DropHead => {
-                let _ = self.drop_gone(table, other);
+                let _ = self.drop_departed(table, other);
                 None
             }
             LinkStep::Stabilise => match self.stabilise(table, other) {
@@ -299,33 +242,9 @@ impl<J: Naming, S: EntryStore> SeatedNode<J, S> {
                 None
             }
             LinkStep::Forget => {
-                let _ = self.forget_gone(table, other);
+                let _ = self.forget_departed(table, other);
                 None
             }
-        }
-    }
-
-    /// The same beside a node that crashed.
-    pub fn step_beside_crashed(
-        &mut self,
-        table: &Shared<J>,
-        other: &mut CrashedNode<J, S>,
-        step: LinkStep,
-    )
-        ensures links { self.new ≡ with_links self.new.node.links self.old }
-        ensures other { other.new ≡ other.old }
-    {
-        if !self.is_member() {
-            return;
-        }
-        match step {
-            LinkStep::DropHead => {
-                let _ = self.drop_crashed(table, other);
-            }
-            LinkStep::Forget => {
-                let _ = self.forget_crashed(table, other);
-            }
-            LinkStep::Stabilise | LinkStep::TakeCandidate | LinkStep::Rectify => {}
         }
     }
 }

@@ -15,17 +15,19 @@ use chord_sight::{NodeCounts, NodeSight, OutboxSight, Phase, SegmentSight};
 use chord_store::EntryStore;
 use std::alloc::{AllocError, Global};
 
-/// The phase of a node that crashed or not.
-fn phase_seen(crashed: bool, phase: chord_node::Phase) -> Phase
-    ensures { result ≡ phase_seen crashed phase }
+/// The phase of a node that acts or does not, and crashed or not: one that crashed and acts is being
+/// rescued.
+pub(crate) fn phase_seen(acts: bool, crashed: bool, phase: chord_node::Phase) -> Phase
+    ensures { result ≡ phase_seen acts crashed phase }
 {
-    if crashed {
+    if !acts {
         return Phase::Crashed;
     }
     match phase {
+        chord_node::Phase::Gone => Phase::Gone,
+        _ if crashed => Phase::Rescuing,
         chord_node::Phase::Staying => Phase::Staying,
         chord_node::Phase::Leaving => Phase::Leaving,
-        chord_node::Phase::Gone => Phase::Gone,
     }
 }
 
@@ -202,14 +204,14 @@ pub(crate) fn gives_to<S: EntryStore>(node: &Node<S>, to: u64) -> bool
     false
 }
 
-/// How a node looks.
+/// How a node looks, which is seen in this phase.
 pub(crate) fn sight_of<S: EntryStore>(
     alloc: Global,
     node: &Node<S>,
     counts: NodeCounts,
-    crashed: bool,
+    phase: Phase,
 ) -> Result<NodeSight, AllocError>
-    ensures { IfOk result (λ sight. look_in sight ≡ sight_of crashed node.now counts) }
+    ensures { IfOk result (λ sight. look_in sight ≡ sight_of phase node.now counts) }
 {
     let links = node.links();
     let successors = numbers_of(alloc, links.list().entries())?;
@@ -218,7 +220,7 @@ pub(crate) fn sight_of<S: EntryStore>(
     Ok(NodeSight {
         number: node.number(),
         id: links.me().id,
-        phase: phase_seen(crashed, node.phase()),
+        phase,
         predecessor: number_in(links.predecessor()),
         successors,
         fingers: known_fingers(links.fingers()),

@@ -10,7 +10,7 @@ use std::time::{Clock, Duration};
 const LOOK: u64 = 50;
 
 impl<J: Naming, S: EntryStore> Ring<J, S> {
-    /// Wakes who rests: a node came, begins to leave, retired or crashed.
+    /// Wakes who rests: a node came, begins to leave, retired, crashed or is rescued.
     pub(crate) fn stir(&self, rt: &impl Wait) {
         *self.stirred.lock(rt) = true;
         self.stirring.notify_all();
@@ -27,7 +27,7 @@ impl<J: Naming, S: EntryStore> Ring<J, S> {
     }
 
     /// Waits until the given time is over, the ring is stopped, or a node comes, begins to leave,
-    /// retires or crashes. Says whether a node did so since the last rest. One thread rests at a
+    /// retires, crashes or is rescued. Says whether a node did so since the last rest. One thread rests at a
     /// time.
     pub fn rest<R: Wait + Clock>(&self, rt: &R, milliseconds: u64) -> bool {
         let mut left = milliseconds;

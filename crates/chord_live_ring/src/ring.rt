@@ -42,7 +42,7 @@ pub struct Ring<J: Naming, S: EntryStore> {
     /// How many of the next waits skip polling.
     pub(crate) polls_to_skip: AtomicU64,
     pub(crate) stopped: AtomicBool,
-    /// Whether a node came, began to leave, retired or crashed since the last rest.
+    /// Whether a node came, began to leave, retired, crashed or was rescued since the last rest.
     pub(crate) stirred: Mutex<bool>,
     pub(crate) stirring: Condvar,
     ghost sized: { J.name.slots ≡ settings.slots },
@@ -132,14 +132,16 @@ impl<J: Naming, S: EntryStore> Ring<J, S> {
     {
         let slot = self.slots.get(number as usize)?;
         match &*slot.state.lock(rt) {
-            SlotState::Here(seated) if seated.links().me().number == number => Some(
-                *seated.links(),
-            ),
+            SlotState::Here(seated)
+                if !seated.has_crashed() && seated.links().me().number == number => {
+                Some(*seated.links())
+            }
             _ => None,
         }
     }
 
-    /// The phase of a node. None if there is no such node, or if it crashed.
+    /// The phase of a node that acts; one that is rescued is leaving. None if there is no such node,
+    /// or if it crashed and is not rescued.
     pub fn phase_of(&self, rt: &impl Wait, number: u64) -> Option<Phase>
         ensures { J.name.slots ≤ number → result ≡ None }
     {

@@ -1,31 +1,34 @@
 //! A node with its seat.
-ghost use Rattle.std.specs.Prelude.{◌≡◌, ◌↔◌, ◌≤◌, ◌<◌, ◌+◌, ◌++◌, [], ◌∷◌, Ok, Err, Contains, Some, None, false, length, slice_get, IsTrue, IsOk, IfOk, IfErr, IfSome, IfNone, OnOk, OnErr};
+ghost use Rattle.std.specs.Prelude.{◌≡◌, ◌≢◌, ◌↔◌, ◌≤◌, ◌<◌, ◌+◌, ◌++◌, [], ◌∷◌, Ok, Err, Contains, Some, None, false, true, length, slice_get, IsTrue, IsOk, IfOk, IfErr, IfSome, IfNone, OnOk, OnErr};
 ghost use Rattle.chord_handover.specs.Handover.{Part as PartOf};
 ghost use Rattle.chord_links.specs.Fingers.{with_finger};
 ghost use Rattle.chord_live_steps.specs.Adjoining.{JoinIs};
 ghost use Rattle.chord_live_ring.specs.Deeds.{counted, no_counts};
 ghost use Rattle.chord_live_ring.specs.declared.deed.Deed.TheVariants.{Gave, Ticked};
 ghost use Rattle.chord_live_steps.specs.Pieces.{GivesToIs, TrimIs};
-ghost use Rattle.chord_live_ring.specs.SeatedCalls.{Gives, GivesNone, GivesPiece, RetirementIs, SendsNone, address_of, end_of, with_links};
-ghost use Rattle.chord_live_ring.specs.Sights.{HoldingIs, counts_after, kind_in, look_in, sight_of};
+ghost use Rattle.chord_live_ring.specs.SeatedCalls.{Gives, GivesNone, GivesPiece, SendsNone, address_of, end_of, rescued, with_links};
+ghost use Rattle.chord_live_ring.specs.Departures.{CrashFaultIs, RetireFaultIs};
+ghost use Rattle.chord_live_steps.specs.Departures.{number_of};
+ghost use Rattle.chord_live_steps.specs.declared.departure.Departure.TheVariants.{Crash, Retire};
+ghost use Rattle.chord_live_ring.specs.Sights.{HoldingIs, counts_after, kind_in, look_in, seated_look, shown_of};
 ghost use Rattle.chord_live_steps.specs.Dealt.{DealIs, IsFor};
 ghost use Rattle.chord_live_steps.specs.Tidy.{TidyIs};
 ghost use Rattle.chord_model.specs.Node.{newborn, segment_with};
 ghost use Rattle.chord_model.specs.declared.message.Message.TheVariants.{Part as PartMessage};
-ghost use Rattle.chord_node.specs.Moves.{GiveIs, LeaveIs, ResendIs};
+ghost use Rattle.chord_node.specs.Moves.{GiveIs, LeaveIs, ResendIs, RetireIs};
 ghost use Rattle.chord_node.specs.Pages.{PairsFromIs};
 ghost use Rattle.chord_node.specs.View.{span_of};
 ghost use Rattle.chord_ring.specs.Steps.{joined_links};
 ghost use Rattle.chord_table.specs.Shown.{NodeShown};
 
 use crate::counting::{count, count_if, no_counts};
-use crate::crashed_node::CrashedNode;
 use crate::deed::{Deed, MessageKind};
-use crate::looking::{gives_to, holding_of, sight_of};
+use crate::fault::DepartFault;
+use crate::looking::{gives_to, holding_of, phase_seen, sight_of};
 use chord_ident::Id;
 use chord_links::{Links, Peer};
 use chord_live_steps::{
-    Keyed, Numbers, Target, Tidied, deal_by_id, is_for, join_adjoining, tidy, trim,
+    Departure, Keyed, Numbers, Target, Tidied, deal_by_id, is_for, join_adjoining, tidy, trim,
 };
 use chord_live_types::JoinFault;
 use chord_node::{
@@ -39,10 +42,11 @@ use std::alloc::{AllocError, Global};
 use std::marker::Model;
 
 /// A node, the seat that shows it, and counts of what it did. Contracts see what the seat shows,
-/// and the counts.
+/// and the counts. A node that crashed is no member of the ring any more, whatever it does.
 #[derive(Drop)]
 pub struct SeatedNode<J: Naming, S: EntryStore> {
     pub(crate) node: Node<S>,
+    pub(crate) crashed: bool,
     /// None only while the register has it, for a departure.
     pub(crate) seat: Option<NodeSeat<J>>,
     pub(crate) counts: NodeCounts,
@@ -54,9 +58,9 @@ impl<J: Naming, S: EntryStore> Model for SeatedNode<J, S> {
 
     ghost Value = { Seated };
 
-    ghost view = { λ a. record { node = a.node; messages = messages_in a.seat; counts = a.counts } };
+    ghost view = { λ a. record { node = a.node; crashed = a.crashed; messages = messages_in a.seat; counts = a.counts } };
 
-    ghost invariant = { λ a. IsSeatOf a.node a.seat };
+    ghost invariant = { λ a. IsSeatOf a.node a.crashed a.seat };
 }
 
 /// The kind of the message that is sent, if one is.
@@ -73,11 +77,13 @@ fn kind_sent<J: Naming>(sent: &Option<(Target, Keyed<J>)>) -> Option<MessageKind
 impl<J: Naming, S: EntryStore> SeatedNode<J, S> {
     /// A node with the seat that it was admitted with, which did nothing yet.
     pub fn new(node: Node<S>, seat: NodeSeat<J>) -> SeatedNode<J, S>
-        requires { node ≡ seat.node }
-        ensures { result ≡ record { node = node; messages = seat.messages; counts = no_counts } }
+        requires node { node ≡ seat.node }
+        requires live { seat.crashed ≡ false }
+        ensures { result ≡ record { node = node; crashed = false; messages = seat.messages; counts = no_counts } }
     {
         SeatedNode {
             node,
+            crashed: false,
             seat: Some(seat),
             counts: no_counts(),
         }
@@ -101,7 +107,7 @@ impl<J: Naming, S: EntryStore> SeatedNode<J, S> {
         requires vacant { S.content store ≡ [] }
         ensures same { self.new ≡ self.old }
         ensures counted { OnOk result (numbers.new ≡ record numbers.old { nodes = numbers.old.nodes + 1; ids = numbers.old.ids ++ me.id ∷ [] }) }
-        ensures node { IfOk result (λ new. new ≡ record { node = newborn (joined_links me self.old.node.links) (S.limit store); messages = []; counts = no_counts }) }
+        ensures node { IfOk result (λ new. new ≡ record { node = newborn (joined_links me self.old.node.links) (S.limit store); crashed = false; messages = []; counts = no_counts }) }
         ensures back { IfErr result (λ refused. refused.1 ≡ store) }
         ensures kept { OnErr result (numbers.new ≡ numbers.old) }
     {
@@ -121,15 +127,26 @@ impl<J: Naming, S: EntryStore> SeatedNode<J, S> {
     }
 
     /// The node, crashed by force.
-    pub fn crash_by_force(self, numbers: &mut Numbers<J>, table: &Shared<J>) -> CrashedNode<J, S>
+    pub fn crash_by_force(self, numbers: &mut Numbers<J>, table: &Shared<J>) -> SeatedNode<J, S>
         requires alone { numbers.old.taken ≡ [] }
+        requires live { self.crashed ≡ false }
         ensures broken { numbers.new ≡ record numbers.old { premise = false } }
-        ensures same { result ≡ self }
+        ensures crashed { result ≡ record self { crashed = true } }
     {
-        let SeatedNode { node, seat, counts } = self;
+        let SeatedNode {
+            node,
+            crashed: _,
+            seat,
+            counts,
+        } = self;
         let Some(seat) = seat else { unreachable!() };
         let seat = Some(numbers.crash_by_force(table, seat));
-        CrashedNode { node, seat, counts }
+        SeatedNode {
+            node,
+            crashed: true,
+            seat,
+            counts,
+        }
     }
 
     /// The node's number.
@@ -141,10 +158,11 @@ impl<J: Naming, S: EntryStore> SeatedNode<J, S> {
 
     /// The node's seat. The node is dropped.
     pub fn into_seat(self) -> NodeSeat<J>
-        ensures { result ≡ record { node = self.node; messages = self.messages } }
+        ensures { result ≡ shown_of self }
     {
         let SeatedNode {
             node,
+            crashed: _,
             seat,
             counts: _,
         } = self;
@@ -156,7 +174,7 @@ impl<J: Naming, S: EntryStore> SeatedNode<J, S> {
     /// Proves that the node is one of some reachable world, for which the theorem holds.
     pub fn look(&mut self, table: &Shared<J>)
         ensures same { self.new ≡ self.old }
-        ensures shown { NodeShown (record { node = self.old.node; messages = self.old.messages }) }
+        ensures shown { NodeShown (shown_of self.old) }
     {
         let Some(seat) = &mut self.seat else {
             unreachable!()
@@ -164,11 +182,12 @@ impl<J: Naming, S: EntryStore> SeatedNode<J, S> {
         seat.look(table);
     }
 
-    /// How the node looks now.
-    pub fn sight(&self, alloc: Global) -> Result<NodeSight, AllocError>
-        ensures { IfOk result (λ sight. look_in sight ≡ sight_of false self.now.node self.now.counts) }
+    /// How the node looks now, which acts or does not.
+    pub fn sight(&self, alloc: Global, acts: bool) -> Result<NodeSight, AllocError>
+        ensures { IfOk result (λ sight. look_in sight ≡ seated_look acts self.now) }
     {
-        sight_of(alloc, &self.node, self.counts, false)
+        let phase = phase_seen(acts, self.crashed, self.node.phase());
+        sight_of(alloc, &self.node, self.counts, phase)
     }
 
     /// The node if it holds the identifier, else its first handover of it, if its outbox has one.
@@ -206,6 +225,13 @@ impl<J: Naming, S: EntryStore> SeatedNode<J, S> {
         self.node.links()
     }
 
+    /// Whether the node crashed.
+    pub fn has_crashed(&self) -> bool
+        ensures { result ≡ self.now.crashed }
+    {
+        self.crashed
+    }
+
     /// The node's phase.
     pub fn phase(&self) -> Phase
         ensures { result ≡ self.now.node.phase }
@@ -217,6 +243,7 @@ impl<J: Naming, S: EntryStore> SeatedNode<J, S> {
     /// did. A message is lost if it is not for the node, or if the node is out of memory.
     pub fn answer(&mut self, table: &Shared<J>, keyed: Keyed<J>) -> Option<(Target, Keyed<J>)>
         ensures messages { self.new.messages ≡ self.old.messages ++ keyed.envelope ∷ [] }
+        ensures crashed { self.new.crashed ≡ self.old.crashed }
         ensures some { IfSome result (λ sent. IsFor keyed.envelope self.old.node.number × DealIs keyed.envelope self.old.node (Ok (Some (sent.0, sent.1.envelope))) self.new.node) }
         ensures none { IfNone result (SendsNone keyed.envelope self.old.node self.new.node) }
         ensures sent { IfSome result (λ sent. self.new.counts ≡ counts_after keyed.envelope (Some sent.1.envelope) self.old.node self.new.node self.old.counts) }
@@ -233,6 +260,7 @@ impl<J: Naming, S: EntryStore> SeatedNode<J, S> {
     /// Takes a message in, makes the node's call for it, and sends the answer.
     fn deal_with(&mut self, table: &Shared<J>, keyed: Keyed<J>) -> Option<(Target, Keyed<J>)>
         ensures messages { self.new.messages ≡ self.old.messages ++ keyed.envelope ∷ [] }
+        ensures crashed { self.new.crashed ≡ self.old.crashed }
         ensures some { IfSome result (λ sent. IsFor keyed.envelope self.old.node.number × DealIs keyed.envelope self.old.node (Ok (Some (sent.0, sent.1.envelope))) self.new.node) }
         ensures none { IfNone result (SendsNone keyed.envelope self.old.node self.new.node) }
         ensures counts { self.new.counts ≡ self.old.counts }
@@ -277,6 +305,7 @@ impl<J: Naming, S: EntryStore> SeatedNode<J, S> {
     /// Cuts or finds a held segment that is not the node's own, given its predecessor.
     pub fn tidy(&mut self, table: &Shared<J>, predecessor: Id) -> Result<Tidied, AllocError>
         ensures messages { self.new.messages ≡ self.old.messages }
+        ensures crashed { self.new.crashed ≡ self.old.crashed }
         ensures counts { self.new.counts ≡ self.old.counts }
         ensures answer { TidyIs predecessor self.old.node result self.new.node }
     {
@@ -293,6 +322,7 @@ impl<J: Naming, S: EntryStore> SeatedNode<J, S> {
     /// Joins two held segments that adjoin inside the node's own span, given its predecessor.
     pub fn join_adjoining(&mut self, table: &Shared<J>, predecessor: Id) -> Result<bool, AllocError>
         ensures messages { self.new.messages ≡ self.old.messages }
+        ensures crashed { self.new.crashed ≡ self.old.crashed }
         ensures counts { self.new.counts ≡ self.old.counts }
         ensures answer { JoinIs predecessor self.old.node result self.new.node }
     {
@@ -309,6 +339,7 @@ impl<J: Naming, S: EntryStore> SeatedNode<J, S> {
     /// Cuts a piece from the held segment at this index, if that has more pairs.
     fn trim(&mut self, table: &Shared<J>, place: usize, most: u64) -> Result<bool, AllocError>
         ensures messages { self.new.messages ≡ self.old.messages }
+        ensures crashed { self.new.crashed ≡ self.old.crashed }
         ensures counts { self.new.counts ≡ self.old.counts }
         ensures answer { TrimIs place most self.old.node result self.new.node }
         ensures err { OnErr result (self.new ≡ self.old) }
@@ -340,6 +371,7 @@ impl<J: Naming, S: EntryStore> SeatedNode<J, S> {
         to: u64,
     ) -> Result<(u64, Envelope<J>), GiveFault>
         ensures messages { self.new.messages ≡ self.old.messages }
+        ensures crashed { self.new.crashed ≡ self.old.crashed }
         ensures counts { OnOk result (self.new.counts ≡ counted Gave self.old.counts) }
         ensures ok { IfOk result (λ sent. Gives place to self.old.node sent.0 sent.1 self.new.node) }
         ensures err { IfErr result (λ fault. GiveIs place to self.old.node (Err fault) self.new.node) }
@@ -366,6 +398,7 @@ impl<J: Naming, S: EntryStore> SeatedNode<J, S> {
         most: u64,
     ) -> Result<(u64, Envelope<J>), GiveFault>
         ensures messages { self.new.messages ≡ self.old.messages }
+        ensures crashed { self.new.crashed ≡ self.old.crashed }
         ensures counts { OnOk result (self.new.counts ≡ counted Gave self.old.counts) }
         ensures piece { IfOk result (λ sent. GivesPiece place to most self.old.node sent.0 sent.1 self.new.node) }
         ensures none { IfErr result (λ fault. GivesNone place to most self.old.node fault self.new.node) }
@@ -415,6 +448,7 @@ impl<J: Naming, S: EntryStore> SeatedNode<J, S> {
     pub fn begin_leave(&mut self, table: &Shared<J>) -> Result<(), NotStaying>
         ensures messages { self.new.messages ≡ self.old.messages }
         ensures counts { self.new.counts ≡ self.old.counts }
+        ensures crashed { self.new.crashed ≡ self.old.crashed }
         ensures answer { LeaveIs self.old.node result self.new.node }
     {
         let Some(seat) = &mut self.seat else {
@@ -425,15 +459,60 @@ impl<J: Naming, S: EntryStore> SeatedNode<J, S> {
         Ok(())
     }
 
-    /// Why the node would refuse to retire now.
-    pub fn retirement(&self) -> Option<RetireFault>
-        ensures { RetirementIs self.now.node result }
+    /// Begins to hand over what the node holds, as one that leaves.
+    pub fn rescue(&mut self, table: &Shared<J>)
+        ensures { self.new ≡ rescued self.old }
     {
-        if self.node.phase() != Phase::Leaving {
-            return Some(RetireFault::NotLeaving);
+        let Some(seat) = &mut self.seat else {
+            unreachable!()
+        };
+        if self.node.begin_leave().is_ok() {
+            seat.local(table, &self.node);
+        }
+    }
+
+    /// A node that crashed and was rescued is gone, if it holds nothing and has an empty outbox. It
+    /// is no member, so the ring is not asked.
+    pub fn retire_rescued(&mut self, table: &Shared<J>) -> Result<(), RetireFault>
+        requires crashed { self.old.crashed ≡ true }
+        ensures messages { self.new.messages ≡ self.old.messages }
+        ensures counts { self.new.counts ≡ self.old.counts }
+        ensures crashed { self.new.crashed ≡ self.old.crashed }
+        ensures answer { RetireIs self.old.node result self.new.node }
+    {
+        let Some(seat) = &mut self.seat else {
+            unreachable!()
+        };
+        self.node.retire()?;
+        seat.local(table, &self.node);
+        Ok(())
+    }
+
+    /// Why the node would not depart so now, if it is the one that is to.
+    pub(crate) fn departure_fault(&self, departure: Departure) -> Option<DepartFault>
+        ensures other { number_of departure ≢ self.now.node.number → result ≡ None }
+        ensures crash { departure ≡ Crash self.now.node.number → CrashFaultIs self.now result }
+        ensures retire { departure ≡ Retire self.now.node.number → RetireFaultIs self.now result }
+    {
+        if departure.number() != self.node.number() {
+            return None;
+        }
+        match departure {
+            Departure::Crash(_) if !self.is_member() => Some(DepartFault::NotLive),
+            Departure::Crash(_) => None,
+            Departure::Retire(_) => self.retire_fault(),
+        }
+    }
+
+    /// Why the node would not retire now.
+    fn retire_fault(&self) -> Option<DepartFault>
+        ensures { RetireFaultIs self.now result }
+    {
+        if self.crashed || self.node.phase() != Phase::Leaving {
+            return Some(DepartFault::NotLeaving);
         }
         if self.node.held_count() != 0 || self.node.outbox_len() != 0 {
-            return Some(RetireFault::NotEmpty);
+            return Some(DepartFault::NotEmpty);
         }
         None
     }

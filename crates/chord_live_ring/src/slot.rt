@@ -1,11 +1,10 @@
 //! Slots of nodes.
 ghost use Rattle.std.specs.Prelude.{◌≡◌, ◌≢◌, ◌<◌, [], false, true, Ok, None, IfOk, IfSome};
 ghost use Rattle.chord_live_ring.specs.declared.slot.SlotState.TheVariants.{Vacant, Here, Crashed};
-ghost use Rattle.chord_live_ring.specs.SeatedCalls.{with_links};
+ghost use Rattle.chord_live_ring.specs.SeatedCalls.{rescued, with_links};
 ghost use Rattle.chord_live_ring.specs.Sights.{HoldingIs, IsPageShown, IsSightOf, SightIs};
 ghost use Rattle.chord_node.specs.Pages.{PairsFromIs};
 
-use crate::crashed_node::CrashedNode;
 use crate::seated_node::SeatedNode;
 use chord_ident::Id;
 use chord_links::Peer;
@@ -24,9 +23,10 @@ use std::sync::atomic::{AtomicBool, AtomicU64};
 pub enum SlotState<J: Naming, S: EntryStore> {
     /// No node was admitted.
     Vacant,
+    /// The node acts. One that crashed does so while it is rescued, as no member.
     Here(SeatedNode<J, S>),
-    /// The node crashed: it takes no further step.
-    Crashed(CrashedNode<J, S>),
+    /// The node crashed: it takes no step, until it is rescued.
+    Crashed(SeatedNode<J, S>),
 }
 
 /// A step of the ring that a node takes beside another one.
@@ -45,17 +45,64 @@ pub enum LinkStep {
 }
 
 impl<J: Naming, S: EntryStore> SlotState<J, S> {
-    /// The slot after its node, if it has one, crashed by force.
+    /// The slot after its node, if it has one that did not crash, crashed by force.
     pub fn crashed_by_force(self, numbers: &mut Numbers<J>, table: &Shared<J>) -> SlotState<J, S>
         requires alone { numbers.old.taken ≡ [] }
-        ensures here { (seated : _) → self ≡ Here seated → result ≡ Crashed seated }
-        ensures broken { (seated : _) → self ≡ Here seated → numbers.new ≡ record numbers.old { premise = false } }
+        ensures live { (seated : _) → self ≡ Here seated → seated.crashed ≡ false
+            → (result ≡ Crashed (record seated { crashed = true })) × (numbers.new ≡ record numbers.old { premise = false }) }
+        ensures rescued { (seated : _) → self ≡ Here seated → seated.crashed ≡ true → (result ≡ self) × (numbers.new ≡ numbers.old) }
         ensures other { ((seated : _) → self ≢ Here seated) → (result ≡ self) × (numbers.new ≡ numbers.old) }
         ensures taken { numbers.new.taken ≡ numbers.old.taken }
     {
         match self {
-            SlotState::Here(seated) => SlotState::Crashed(seated.crash_by_force(numbers, table)),
+            SlotState::Here(seated) => {
+                if seated.has_crashed() {
+                    return SlotState::Here(seated);
+                }
+                SlotState::Crashed(seated.crash_by_force(numbers, table))
+            }
             other => other,
+        }
+    }
+
+    /// The node in the slot crashed: it acts no more.
+    pub fn halt(&mut self)
+        ensures here { (seated : _) → self.old ≡ Here seated → self.new ≡ Crashed seated }
+        ensures other { ((seated : _) → self.old ≢ Here seated) → self.new ≡ self.old }
+    {
+        let halted = match std::mem::replace(self, SlotState::Vacant) {
+            SlotState::Here(seated) => SlotState::Crashed(seated),
+            other => other,
+        };
+        drop(std::mem::replace(self, halted));
+    }
+
+    /// The node in the slot, if it crashed, is rescued: it acts again, as a node that leaves and is
+    /// no member. Says whether it is.
+    pub fn rescue(&mut self, table: &Shared<J>) -> bool
+        ensures crashed { (seated : _) → self.old ≡ Crashed seated → (result ≡ true) × (self.new ≡ Here (rescued seated)) }
+        ensures other { ((seated : _) → self.old ≢ Crashed seated) → (result ≡ false) × (self.new ≡ self.old) }
+    {
+        let (left, is_rescued) = match std::mem::replace(self, SlotState::Vacant) {
+            SlotState::Crashed(seated) => {
+                let mut seated = seated;
+                seated.rescue(table);
+                (SlotState::Here(seated), true)
+            }
+            other => (other, false),
+        };
+        drop(std::mem::replace(self, left));
+        is_rescued
+    }
+
+    /// Whether the node in the slot crashed and is not rescued.
+    pub fn is_halted(&self) -> bool
+        ensures crashed { (seated : _) → self.now ≡ Crashed seated → result ≡ true }
+        ensures other { ((seated : _) → self.now ≢ Crashed seated) → result ≡ false }
+    {
+        match self {
+            SlotState::Crashed(_) => true,
+            SlotState::Vacant | SlotState::Here(_) => false,
         }
     }
 
@@ -78,10 +125,7 @@ impl<J: Naming, S: EntryStore> SlotState<J, S> {
         match other {
             SlotState::Vacant => None,
             SlotState::Here(theirs) => seated.step_beside(table, theirs, step),
-            SlotState::Crashed(theirs) => {
-                seated.step_beside_crashed(table, theirs, step);
-                None
-            }
+            SlotState::Crashed(theirs) => seated.step_beside(table, theirs, step),
         }
     }
 
@@ -94,8 +138,7 @@ impl<J: Naming, S: EntryStore> SlotState<J, S> {
     {
         match self {
             SlotState::Vacant => None,
-            SlotState::Here(seated) => seated.holding(id),
-            SlotState::Crashed(seated) => seated.holding(id),
+            SlotState::Here(seated) | SlotState::Crashed(seated) => seated.holding(id),
         }
     }
 
@@ -107,19 +150,19 @@ impl<J: Naming, S: EntryStore> SlotState<J, S> {
     ) -> Result<Option<NodeSight>, AllocError>
         ensures same { self.new ≡ self.old }
         ensures vacant { self.old ≡ Vacant → result ≡ Ok None }
-        ensures here { (seated : _) → self.old ≡ Here seated → IfOk result (SightIs false seated) }
-        ensures crashed { (seated : _) → self.old ≡ Crashed seated → IfOk result (SightIs true seated) }
+        ensures here { (seated : _) → self.old ≡ Here seated → IfOk result (SightIs true seated) }
+        ensures crashed { (seated : _) → self.old ≡ Crashed seated → IfOk result (SightIs false seated) }
         ensures shown { IfOk result (λ found. IfSome found (λ sight. IsSightOf sight.number sight)) }
     {
         match self {
             SlotState::Vacant => Ok(None),
             SlotState::Here(seated) => {
                 seated.look(table);
-                Ok(Some(seated.sight(alloc)?))
+                Ok(Some(seated.sight(alloc, true)?))
             }
             SlotState::Crashed(seated) => {
                 seated.look(table);
-                Ok(Some(seated.sight(alloc)?))
+                Ok(Some(seated.sight(alloc, false)?))
             }
         }
     }

@@ -183,7 +183,7 @@ impl<J: Naming, S: EntryStore> Ring<J, S> {
         match self.tidy_at(rt, number)? {
             NextMove::Done => Ok(Round::Quiet),
             NextMove::WasCut => Ok(Round::Busy),
-            NextMove::Give(place, end) => self.give_to_holder(rt, number, place, end),
+            NextMove::Give(place, end) => self.give_to_holder(rt, number, number, place, end),
         }
     }
 
@@ -240,7 +240,7 @@ impl<J: Naming, S: EntryStore> Ring<J, S> {
 
     /// Does one round of upkeep of a node. Out of memory ends it early; the steps done so far stay.
     /// A node that is no member any more takes in the envelopes that wait for it: it declines old
-    /// handovers and passes requests on.
+    /// handovers and passes requests on. Where it is rescued it hands over what it holds.
     pub fn tick(&self, rt: &impl Wait, number: u64) -> Result<Round, TickFault>
         ensures { J.name.slots ≤ number → result ≡ Err NoSuchNode }
     {
@@ -252,7 +252,9 @@ impl<J: Naming, S: EntryStore> Ring<J, S> {
         }
         if !self.is_live(number) {
             self.take_in_waiting(rt, number);
-            return Ok(Round::Quiet);
+            return self
+                .maintain_rescued(rt, number)
+                .map_err(|_| TickFault::Memory);
         }
         let Some(links) = self.links_of(rt, number) else {
             return Ok(Round::Quiet);

@@ -124,7 +124,7 @@ impl<J: Naming, S: EntryStore> Ring<J, S> {
 
     /// The first live node from this one on, in the order of their numbers and then from node 0 on.
     /// This one itself if none is live.
-    fn live_from(&self, number: u64) -> u64 {
+    pub(crate) fn live_from(&self, number: u64) -> u64 {
         if self.is_live(number) {
             return number;
         }

@@ -129,7 +129,7 @@ impl<J: Naming> Numbers<J> {
         requires high { r ≤ 16 }
         requires vacant { S.content store ≡ [] }
         ensures ok { IfOk result (λ admitted. admitted.0 ≡ founder (alone (record { number = 0; id = id }) r) (S.limit store)) }
-        ensures shown { IfOk result (λ admitted. admitted.1 ≡ record { node = admitted.0; messages = [] }) }
+        ensures shown { IfOk result (λ admitted. admitted.1 ≡ record { node = admitted.0; crashed = false; messages = [] }) }
         ensures err { IfErr result (λ back. back ≡ store) }
         ensures counted { OnOk result (self.new ≡ record self.old { nodes = 1; ids = self.old.ids ++ id ∷ [] }) }
         ensures same { OnErr result (self.new ≡ self.old) }
@@ -160,12 +160,13 @@ impl<J: Naming> Numbers<J> {
         requires slot { self.old.nodes < J.name.slots }
         requires own { links.me.number ≡ self.old.nodes }
         requires unused { ¬ Contains self.old.ids links.me.id }
+        requires member { pred.old.crashed ≡ false }
         requires live { pred.old.node.phase ≢ Gone }
         requires between { IsBetween pred.old.node.links.me.id.number links.me.id.number (first_entry pred.old.node.links).id.number }
         requires behind { links ≡ joined_links links.me pred.old.node.links }
         requires vacant { S.content store ≡ [] }
         ensures ok { IfOk result (λ admitted. admitted.0 ≡ newborn links (S.limit store)) }
-        ensures shown { IfOk result (λ admitted. admitted.1 ≡ record { node = admitted.0; messages = [] }) }
+        ensures shown { IfOk result (λ admitted. admitted.1 ≡ record { node = admitted.0; crashed = false; messages = [] }) }
         ensures err { IfErr result (λ back. back ≡ store) }
         ensures counted { OnOk result (self.new ≡ record self.old { nodes = self.old.nodes + 1; ids = self.old.ids ++ links.me.id ∷ [] }) }
         ensures same { OnErr result (self.new ≡ self.old) }

@@ -30,6 +30,7 @@ mod pairs_of_nodes;
 mod pieces;
 mod races;
 mod refusals;
+mod rescuing;
 mod resting;
 mod settling;
 mod sights;

@@ -12,11 +12,19 @@ pub enum Phase {
     Gone,
     /// It crashed, and takes no further step.
     Crashed,
+    /// It crashed, is rescued, and is not gone yet.
+    Rescuing,
 }
 
 impl Phase {
     /// All phases.
-    pub const ALL: [Phase; 4] = [Phase::Staying, Phase::Leaving, Phase::Gone, Phase::Crashed];
+    pub const ALL: [Phase; 5] = [
+        Phase::Staying,
+        Phase::Leaving,
+        Phase::Gone,
+        Phase::Crashed,
+        Phase::Rescuing,
+    ];
 
     /// Its word in JSON and in metrics.
     pub fn word(self) -> &'static str
@@ -27,6 +35,7 @@ impl Phase {
             Phase::Leaving => "leaving",
             Phase::Gone => "gone",
             Phase::Crashed => "crashed",
+            Phase::Rescuing => "rescuing",
         }
     }
 }

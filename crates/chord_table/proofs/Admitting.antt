@@ -2,8 +2,9 @@
 use Rattle.std.proofs.Common.{◌≡◌, ℕ, false, List, [], ◌∷◌, ◌++◌, refl, sym, ap, ◌∙◌, subst}
 use Rattle.atomic_table.specs.Table.{Me}
 use Rattle.chord_model.specs.Node.{Node}
+use Rattle.chord_table.proofs.Becoming.{live_actor}
 use Rattle.chord_table.specs.Seen.{Actor, OfNode, OfCaller, Sight, View}
-use Rattle.chord_table.specs.Views.{Register, Assembled, NodeSight, view_of, view_of_assembled, assembled_of, with_seat, with_admitted, with_number, without_last, last_seat, node_in, MayJoin, MayJoinBehind}
+use Rattle.chord_table.specs.Views.{Register, Assembled, NodeSight, view_of, view_of_assembled, assembled_of, with_seat, with_admitted, with_number, without_last, last_seat, node_in, crashed_in, as_node, MayJoin, MayJoinBehind}
 
 -- the registrar's view with one number more
 pub admitted_view : (new : Actor) (a : Assembled)
@@ -51,14 +52,14 @@ assembled_as me a is =
 
 -- a join that the registrar may do is one that its seat allows
 pub may_join_behind : (register : Register) (t : Sight) (w : NodeSight) (node : Node)
-    → t.actor ≡ OfNode (node_in t.actor) false
-    → record { node = node_in t.actor; messages = t.messages } ≡ w
-    → MayJoin register w.node node
+    → t.actor ≡ OfNode (node_in t.actor) (crashed_in t.actor) → as_node t ≡ w
+    → w.crashed ≡ false → MayJoin register w.node node
     → MayJoinBehind (record { register = register; taken = t ∷ [] }) (OfNode node false)
-may_join_behind register t w node is shows may = (
+may_join_behind register t w node is shows live may = (
   node_in t.actor,
   t.messages,
-  ap (λ (a : Actor). record { actor = a; messages = t.messages } ∷ []) is,
+  ap (λ (a : Actor). record { actor = a; messages = t.messages } ∷ [])
+      (live_actor t w is shows live),
   refl,
   subst (λ (n : NodeSight). MayJoin register n.node node) (sym shows) may,
 )

@@ -15,7 +15,7 @@ use Rattle.chord_table.specs.Rings.{StandsOnRing}
 use Rattle.chord_table.specs.Scenes.{Scene, Lived, Agrees}
 use Rattle.chord_table.specs.Seen.{Actor, OfNode, OfCaller, Witnessed}
 use Rattle.chord_table.specs.Shown.{HoldsIn, NodeShown, CallerShown, IsIn, WitnessShown}
-use Rattle.chord_table.specs.Views.{IsSeenIn, IsTrueOfSome, Sight, NodeSight, CallerSight, node_in, caller_in, view_of}
+use Rattle.chord_table.specs.Views.{IsSeenIn, IsTrueOfSome, Sight, NodeSight, CallerSight, node_in, crashed_in, caller_in, as_node, view_of}
 
 -- what holds of every scene that steps lead to
 abbrev pub EachHolds : Type 0
@@ -43,15 +43,20 @@ scene_holds headline safe one_ring scene lived agrees =
       one_ring = one_ring scene.ring reached;
     }
 
-pub node_told : (crashed : Bool) (s : Sight) (v : NodeSight)
-    → s.actor ≡ OfNode (node_in s.actor) crashed
-    → record { node = node_in s.actor; messages = s.messages } ≡ v → IsTrueOfSome (view_of s)
-    → EachHolds → NodeShown v
-node_told crashed s v is shows (scene, lived, agrees, seen) each =
+pub node_told : (s : Sight) (v : NodeSight)
+    → s.actor ≡ OfNode (node_in s.actor) (crashed_in s.actor) → as_node s ≡ v
+    → IsTrueOfSome (view_of s) → EachHolds → NodeShown v
+node_told s v is shows (scene, lived, agrees, seen) each =
     let ((there, messages), standing) =
     subst (λ (a : Actor). IsSeenIn scene (record { actor = a; messages = s.messages })) is seen in
     subst (λ (n : NodeSight). NodeShown n) shows
-    (record { scene = scene; holds = each scene lived agrees; there = there; messages = messages })
+    (record {
+      scene = scene;
+      holds = each scene lived agrees;
+      there = there;
+      standing = standing;
+      messages = messages;
+    })
 
 pub caller_told : (s : Sight) (v : CallerSight) → s.actor ≡ OfCaller (caller_in s.actor)
     → record { caller = caller_in s.actor; messages = s.messages } ≡ v → IsTrueOfSome (view_of s)

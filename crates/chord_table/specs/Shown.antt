@@ -10,7 +10,7 @@ use Rattle.chord_model.specs.declared.message.Message.{Message}
 use Rattle.chord_ring.specs.Ring.{Members}
 use Rattle.chord_table.specs.Actors.{node_numbers, caller_numbers}
 use Rattle.chord_table.specs.Rings.{AreMembers, StandsOnRing}
-use Rattle.chord_table.specs.Scenes.{Scene, Lived, Agrees, no_ring}
+use Rattle.chord_table.specs.Scenes.{Scene, Lived, Agrees, is_among, no_ring}
 use Rattle.chord_table.specs.Seen.{Sight}
 use Rattle.chord_table.specs.Later.{WasThere}
 use Rattle.chord_table.specs.Views.{NodeSight, CallerSight, Assembled, AllDiffer, IsSeenIn, Knows, known_in, nodes_among, callers_among}
@@ -29,6 +29,7 @@ pub record NodeShown (sight : NodeSight) : Type 0 where
   pub scene : Scene
   pub holds : HoldsIn scene
   pub there : node_at sight.node.number scene.world.nodes ≡ Some sight.node
+  pub standing : is_among sight.node.number scene.crashed ≡ sight.crashed
   pub messages : All (Contains scene.world.sent) sight.messages
 
 -- some such scene has the caller as its seat shows it, and all that the caller took is in one legal

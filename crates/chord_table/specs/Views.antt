@@ -305,9 +305,10 @@ with_number (OfNode node crashed) register = record register {
 with_number (OfCaller caller) register =
     record register { callers = register.callers ++ caller.number ∷ [] }
 
--- what a node's seat shows
+-- what a node's seat shows: the node, and whether it crashed
 pub record NodeSight : Type 0 where
   pub node : Node
+  pub crashed : Bool
   pub messages : List Message
 
 -- what a caller's seat shows
@@ -319,6 +320,22 @@ pub record CallerSight : Type 0 where
 abbrev pub node_in : Actor → Node
 node_in (OfNode node crashed) = node
 node_in (OfCaller caller) = no_node
+
+-- whether the actor is a node that crashed
+abbrev pub crashed_in : Actor → Bool
+crashed_in (OfNode node crashed) = crashed
+crashed_in (OfCaller caller) = false
+
+-- the sight of a node, and what a node's seat shows of it
+abbrev pub as_actor : NodeSight → Sight
+as_actor seat = record { actor = OfNode seat.node seat.crashed; messages = seat.messages }
+
+abbrev pub as_node : Sight → NodeSight
+as_node sight = record {
+  node = node_in sight.actor;
+  crashed = crashed_in sight.actor;
+  messages = sight.messages;
+}
 
 -- the caller that the actor is
 abbrev pub caller_in : Actor → Caller

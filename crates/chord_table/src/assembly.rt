@@ -4,11 +4,10 @@ ghost use Rattle.chord_ring.specs.Ring.{Members, CanDepart, IsPrincipal, is_memb
 ghost use Rattle.chord_table.specs.Seen.{OfNode, OfCaller};
 ghost use Rattle.chord_table.specs.Shown.{AssemblyShown, WholeShown};
 ghost use Rattle.chord_table.specs.Rings.{AreMembers, StandsOnRing};
-ghost use Rattle.chord_table.specs.Views.{HasAllNodes, IsTrueOfSome, IsWhole, MayRetire, crash_sight, retire_sight, nodes_among, last_of, all_but_last, node_in, view_of_assembled, word_of};
+ghost use Rattle.chord_table.specs.Views.{HasAllNodes, IsTrueOfSome, IsWhole, MayRetire, crash_sight, retire_sight, nodes_among, last_of, all_but_last, as_actor, as_node, node_in, crashed_in, view_of_assembled, word_of};
 
 use crate::actor_seat::ActorSeat;
 use crate::caller_seat::CallerSeat;
-use crate::crashed_seat::CrashedSeat;
 use crate::event::Numbered;
 use crate::laws::each_scene_holds;
 use crate::moves::{Crash, Give, Heed, Look, Retire, Stand, Take};
@@ -22,23 +21,9 @@ use std::marker::{Brand, PhantomData};
 impl<J: Naming> Registrar<J> {
     /// Takes in a node's seat.
     pub fn take_node(&mut self, table: &Shared<J>, seat: NodeSeat<J>)
-        ensures { self.new ≡ record self.old {
-          taken = self.old.taken
-              ++ record { actor = OfNode seat.node false; messages = seat.messages } ∷ [];
-        } }
+        ensures { self.new ≡ record self.old { taken = self.old.taken ++ as_actor seat ∷ [] } }
     {
         let NodeSeat { seat } = seat;
-        self.take(table, seat);
-    }
-
-    /// Takes in the seat of a node that crashed.
-    pub fn take_crashed(&mut self, table: &Shared<J>, seat: CrashedSeat<J>)
-        ensures { self.new ≡ record self.old {
-          taken = self.old.taken
-              ++ record { actor = OfNode seat.node true; messages = seat.messages } ∷ [];
-        } }
-    {
-        let CrashedSeat { seat } = seat;
         self.take(table, seat);
     }
 
@@ -173,33 +158,14 @@ impl<J: Naming> Registrar<J> {
     /// Gives back the last seat that it took in, which is a node's.
     pub fn give_node(&mut self, table: &Shared<J>, number: u64) -> NodeSeat<J>
         requires some { self.old.taken ≢ [] }
-        requires node { (last_of self.old.taken).actor ≡ OfNode (node_in (last_of self.old.taken).actor) false }
+        requires node { (last_of self.old.taken).actor ≡ OfNode (node_in (last_of self.old.taken).actor) (crashed_in (last_of self.old.taken).actor) }
         requires own { number ≡ (node_in (last_of self.old.taken).actor).number }
         requires slot { number < J.name.slots }
         ensures left { self.new ≡ record self.old { taken = all_but_last self.old.taken } }
-        ensures seat { result ≡ record {
-          node = node_in (last_of self.old.taken).actor;
-          messages = (last_of self.old.taken).messages;
-        } }
+        ensures seat { result ≡ as_node (last_of self.old.taken) }
     {
         let seat = self.give(table, number as usize);
         NodeSeat { seat }
-    }
-
-    /// The same where the node crashed.
-    pub fn give_crashed(&mut self, table: &Shared<J>, number: u64) -> CrashedSeat<J>
-        requires some { self.old.taken ≢ [] }
-        requires node { (last_of self.old.taken).actor ≡ OfNode (node_in (last_of self.old.taken).actor) true }
-        requires own { number ≡ (node_in (last_of self.old.taken).actor).number }
-        requires slot { number < J.name.slots }
-        ensures left { self.new ≡ record self.old { taken = all_but_last self.old.taken } }
-        ensures seat { result ≡ record {
-          node = node_in (last_of self.old.taken).actor;
-          messages = (last_of self.old.taken).messages;
-        } }
-    {
-        let seat = self.give(table, number as usize);
-        CrashedSeat { seat }
     }
 
     fn see(&mut self, table: &Shared<J>)

@@ -24,7 +24,6 @@
 mod actor_seat;
 mod assembly;
 mod caller_seat;
-mod crashed_seat;
 mod envelope;
 mod event;
 mod law;
@@ -40,7 +39,6 @@ mod view;
 mod witness;
 
 pub use caller_seat::CallerSeat;
-pub use crashed_seat::CrashedSeat;
 pub use envelope::Envelope;
 pub use laws::principals_stay;
 pub use naming::Naming;

@@ -1,12 +1,11 @@
 //! The seats of nodes.
-ghost use Rattle.std.specs.Prelude.{◌≡◌, ◌++◌, [], ◌∷◌, Option, Some, true, false};
+ghost use Rattle.std.specs.Prelude.{◌≡◌, ◌++◌, [], ◌∷◌, Option, Some, false};
 ghost use Rattle.chord_model.specs.declared.message.Message.{Message as Content};
 ghost use Rattle.chord_table.specs.Scenes.{place_of};
 ghost use Rattle.chord_table.specs.Shown.{NodeShown};
 ghost use Rattle.chord_table.specs.Views.{MayAct, MayRelink};
 
 use crate::actor_seat::ActorSeat;
-use crate::crashed_seat::CrashedSeat;
 use crate::envelope::Envelope;
 use crate::laws::each_scene_holds;
 use crate::naming::Naming;
@@ -15,22 +14,23 @@ use chord_node::{Message, Node};
 use chord_store::EntryStore;
 use std::marker::{Brand, Model};
 
-/// A node's seat. Contracts see the node, and the messages that came to it.
+/// A node's seat. Contracts see the node, whether it crashed, and the messages that came to it. The
+/// ring has nothing of a node that crashed, whatever it does: its place is empty from then on.
 #[derive(Drop)]
 pub struct NodeSeat<J: Naming> {
     pub(crate) seat: ActorSeat<J>,
 }
 
 impl<J: Naming> Model for NodeSeat<J> {
-    ghost use Rattle.std.specs.Prelude.{◌≡◌, false};
+    ghost use Rattle.std.specs.Prelude.{◌≡◌};
     ghost use Rattle.chord_table.specs.Seen.{OfNode};
-    ghost use Rattle.chord_table.specs.Views.{NodeSight, node_in};
+    ghost use Rattle.chord_table.specs.Views.{NodeSight, as_node, crashed_in, node_in};
 
     ghost Value = { NodeSight };
 
-    ghost view = { λ a. record { node = node_in a.seat.actor; messages = a.seat.messages } };
+    ghost view = { λ a. as_node a.seat };
 
-    ghost invariant = { λ a. a.seat.actor ≡ OfNode (node_in a.seat.actor) false };
+    ghost invariant = { λ a. a.seat.actor ≡ OfNode (node_in a.seat.actor) (crashed_in a.seat.actor) };
 }
 
 impl<J: Naming> NodeSeat<J> {
@@ -38,7 +38,7 @@ impl<J: Naming> NodeSeat<J> {
     /// node's place in the ring as it is.
     pub fn local<S: EntryStore>(&mut self, table: &Shared<J>, after: &Node<S>)
         requires event { (sent : Option Content) × MayAct self.old.node self.old.messages after.now sent }
-        requires place { place_of false after.now ≡ place_of false self.old.node }
+        requires place { place_of self.old.crashed after.now ≡ place_of self.old.crashed self.old.node }
         ensures { self.new ≡ record self.old { node = after.now } }
     {
         self.seat.local::<Brand, Node<S>>(table, after);
@@ -52,22 +52,8 @@ impl<J: Naming> NodeSeat<J> {
         other: &mut NodeSeat<J>,
         after: &Node<S>,
     )
-        requires step { MayRelink self.old.node other.old.node false after.now }
-        ensures mine { self.new ≡ record self.old { node = after.now } }
-        ensures other { other.new ≡ other.old }
-    {
-        self.seat
-            .relink::<Brand, Node<S>>(table, &mut other.seat, after);
-    }
-
-    /// The same while the caller has the seat of a node that crashed.
-    pub fn relink_beside_crashed<S: EntryStore>(
-        &mut self,
-        table: &Shared<J>,
-        other: &mut CrashedSeat<J>,
-        after: &Node<S>,
-    )
-        requires step { MayRelink self.old.node other.old.node true after.now }
+        requires live { self.old.crashed ≡ false }
+        requires step { MayRelink self.old.node other.old.node other.old.crashed after.now }
         ensures mine { self.new ≡ record self.old { node = after.now } }
         ensures other { other.new ≡ other.old }
     {
@@ -77,6 +63,7 @@ impl<J: Naming> NodeSeat<J> {
 
     /// The same with no other seat.
     pub fn relink_alone<S: EntryStore>(&mut self, table: &Shared<J>, after: &Node<S>)
+        requires live { self.old.crashed ≡ false }
         requires step { MayRelink self.old.node self.old.node false after.now }
         ensures { self.new ≡ record self.old { node = after.now } }
     {

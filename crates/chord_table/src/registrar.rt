@@ -6,7 +6,6 @@ ghost use Rattle.chord_table.specs.Views.{node_in, MayEnter, MayFound, MayJoin, 
 
 use crate::actor_seat::ActorSeat;
 use crate::caller_seat::CallerSeat;
-use crate::crashed_seat::CrashedSeat;
 use crate::event::Event;
 use crate::moves::{Admit, Break, Give, Take, Vacate};
 use crate::naming::Naming;
@@ -80,7 +79,7 @@ impl<J: Naming> Registrar<J> {
             ids = self.old.register.ids ++ node.now.links.me.id.number ∷ [];
           };
         } }
-        ensures seat { result ≡ record { node = node.now; messages = [] } }
+        ensures seat { result ≡ record { node = node.now; crashed = false; messages = [] } }
     {
         let seat = self.admit::<Brand, Node<S>>(table, number as usize, node);
         NodeSeat { seat }
@@ -98,6 +97,7 @@ impl<J: Naming> Registrar<J> {
         requires own { number ≡ node.now.number }
         requires slot { number < J.name.slots }
         requires alone { self.old.taken ≡ [] }
+        requires live { pred.old.crashed ≡ false }
         requires may { MayJoin self.old.register pred.old.node node.now }
         ensures admitted { self.new ≡ record self.old {
           register = record self.old.register {
@@ -105,7 +105,7 @@ impl<J: Naming> Registrar<J> {
             ids = self.old.register.ids ++ node.now.links.me.id.number ∷ [];
           };
         } }
-        ensures seat { result ≡ record { node = node.now; messages = [] } }
+        ensures seat { result ≡ record { node = node.now; crashed = false; messages = [] } }
         ensures pred { pred.new ≡ pred.old }
     {
         let word = number as usize;
@@ -156,16 +156,17 @@ impl<J: Naming> Registrar<J> {
 
     /// Records that a node crashed by force: nobody asked whether the ring of the others is safe.
     /// From then on the register says so.
-    pub fn crash_by_force(&mut self, table: &Shared<J>, seat: NodeSeat<J>) -> CrashedSeat<J>
+    pub fn crash_by_force(&mut self, table: &Shared<J>, seat: NodeSeat<J>) -> NodeSeat<J>
         requires alone { self.old.taken ≡ [] }
+        requires live { seat.crashed ≡ false }
         ensures broken { self.new ≡ record self.old {
           register = record self.old.register { premise = false };
         } }
-        ensures seat { result ≡ seat }
+        ensures seat { result ≡ record seat { crashed = true } }
     {
         let NodeSeat { seat } = seat;
         let seat = self.break_actor(table, seat);
-        CrashedSeat { seat }
+        NodeSeat { seat }
     }
 
     fn break_actor(&mut self, table: &Shared<J>, taken: ActorSeat<J>) -> ActorSeat<J>

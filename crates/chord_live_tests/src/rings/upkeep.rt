@@ -2,6 +2,7 @@
 ghost use Rattle.std.specs.Prelude.{◌≡◌, [], ◌∷◌};
 ghost use Rattle.chord_table.specs.Shown.{WitnessShown};
 
+use super::rescuing::rescue;
 use super::{
     C, Said, Way, ask, call, founded, insert_by_another, parts_with, said_by, settings, succeeds,
     tick, tick_both,
@@ -41,6 +42,8 @@ enum Then {
     Guess,
     /// Node 1, which answered a client, crashes.
     GuessCrashed,
+    /// Node 1 crashes and is rescued.
+    Rescue,
 }
 
 /// Holds worker 0 in its lock until it is opened, at most for 10,000 waits of a millisecond.
@@ -94,16 +97,24 @@ fn a_client_asks_no_crashed_node(rt: HostRuntime) {
     is_kept(&rt, rt.alloc(), Then::GuessCrashed);
 }
 
+#[test]
+fn a_rescued_node_hands_over(rt: HostRuntime) {
+    is_kept(&rt, rt.alloc(), Then::Rescue);
+}
+
 /// How often a request is sent. A client that may ask once is not answered if it asks a crashed
 /// node first.
 fn tries_of(then: Then) -> u64 {
-    if then == Then::GuessCrashed { 1 } else { 20 }
+    match then {
+        Then::GuessCrashed | Then::Rescue => 1,
+        Then::TwoLocks | Then::Crash | Then::Leave | Then::Guess => 20,
+    }
 }
 
 /// Where node 1 is.
 fn place_of(then: Then) -> Id {
     match then {
-        Then::TwoLocks | Then::Crash | Then::Leave => Id::new(C),
+        Then::TwoLocks | Then::Crash | Then::Leave | Then::Rescue => Id::new(C),
         Then::Guess | Then::GuessCrashed => Id::new(M),
     }
 }
@@ -179,6 +190,7 @@ fn settle_and_then<
         Then::Leave => leave(rt, alloc, ring),
         Then::Guess => guess(rt, alloc, ring),
         Then::GuessCrashed => guess_crashed(rt, alloc, ring),
+        Then::Rescue => rescue(rt, alloc, ring, caller_of_abc(rt, alloc, ring)),
     }
 }
 

@@ -1,7 +1,8 @@
 //! One look over the seats of all actors.
-ghost use Rattle.std.specs.Prelude.{◌≡◌, [], ◌∷◌, false};
-ghost use Rattle.chord_table.specs.Seen.{OfNode, OfCaller};
+ghost use Rattle.std.specs.Prelude.{◌≡◌, [], ◌∷◌};
+ghost use Rattle.chord_table.specs.Seen.{OfCaller};
 ghost use Rattle.chord_table.specs.Shown.{WholeShown};
+ghost use Rattle.chord_table.specs.Views.{as_actor};
 
 use super::founded;
 use chord_store::CappedStore;
@@ -20,7 +21,7 @@ fn are_a_world<J: Naming>(
     requires alone { registrar.taken ≡ [] }
     requires nodes { registrar.register.nodes ≡ node.node.number ∷ [] }
     requires callers { registrar.register.callers ≡ caller.caller.number ∷ [] }
-    ensures both { result.taken ≡ record { actor = OfNode node.node false; messages = node.messages } ∷ record { actor = OfCaller caller.caller; messages = caller.messages } ∷ [] }
+    ensures both { result.taken ≡ as_actor node ∷ record { actor = OfCaller caller.caller; messages = caller.messages } ∷ [] }
     ensures shown { WholeShown result }
 {
     let mut all = registrar;

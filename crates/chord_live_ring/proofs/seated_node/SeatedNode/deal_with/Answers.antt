@@ -1,4 +1,4 @@
-use Rattle.std.proofs.Common.{None, Some, false, ap, ◌∙◌, sym}
+use Rattle.std.proofs.Common.{None, Some, Bool, ap, ◌∙◌, sym}
 use Rattle.chord_live_ring.proofs.Coming.{acted, shown_by}
 use Rattle.chord_live_steps.specs.Dealt.{message_in}
 use Rattle.chord_model.specs.Node.{Node}
@@ -11,7 +11,7 @@ pub send-envelope-requires : goal.send-envelope-requires
 send-envelope-requires g c =
     let node = λ (s : NodeSight). s.node in
     let seat = c.receive-message.ensures.seat in
-    let mine = shown_by c.self.inside.node c.self.inside.seat c.in-Some.seat c.in-Some.is c.self.invariant ∙ sym (ap node seat) in
+    let mine = (shown_by c.self.inside.node c.self.inside.crashed c.self.inside.seat c.in-Some.seat c.in-Some.is c.self.invariant).0 ∙ sym (ap node seat) in
     record {
       event = acted c.in-Some.seat c.receive-message.new.self c.args.keyed.envelope c.receive-message.result c.self.inside.node c.deal_by_id.new.node c.in-Ok-Some.field-0
           (Some c.in-Ok-Some.sent) seat c.receive-message.ensures.message mine (ap message_in c.in-Ok-Some.field-0-is)
@@ -22,13 +22,14 @@ pub local-requires : goal.local-requires
 local-requires g c =
     let node = λ (s : NodeSight). s.node in
     let seat = c.receive-message.ensures.seat in
-    let mine = shown_by c.self.inside.node c.self.inside.seat c.in-Some.seat c.in-Some.is c.self.invariant ∙ sym (ap node seat) in
+    let mine = (shown_by c.self.inside.node c.self.inside.crashed c.self.inside.seat c.in-Some.seat c.in-Some.is c.self.invariant).0 ∙ sym (ap node seat) in
     let step = c.in-Ok-None.ensures.step in
+    let crashed = c.receive-message.new.self.crashed in
     record {
       event = (
         None,
         acted c.in-Some.seat c.receive-message.new.self c.args.keyed.envelope c.receive-message.result c.self.inside.node c.deal_by_id.new.node c.in-Ok-None.field-0 None seat
             c.receive-message.ensures.message mine (ap message_in c.in-Ok-None.field-0-is) step,
       );
-      place = taking_keeps c.self.inside.node c.deal_by_id.new.node c.receive-message.result (message_in c.in-Ok-None.field-0) step.0 step.1 ∙ ap (λ (n : Node). place_of false n) mine;
+      place = taking_keeps crashed c.self.inside.node c.deal_by_id.new.node c.receive-message.result (message_in c.in-Ok-None.field-0) step.0 step.1 ∙ ap (λ (n : Node). place_of crashed n) mine;
     }

@@ -1,15 +1,19 @@
-use Rattle.std.proofs.Common.{◌≡◌, true, false, refl, sym, ap, ◌∙◌, inl, inr}
-use Rattle.std.proofs.lemmas.Bool.{true≢false}
-use Rattle.chord_links.specs.NodeLinks.{NodeLinks}
+use Rattle.std.proofs.Common.{refl, sym, ap, ◌∙◌}
 use Rattle.chord_live_ring.specs.Sights.{Seated}
-use Rattle.chord_model.specs.Node.{Node}
-use Rattle.chord_live_ring.proofs.Relinked.{may_take}
+use Rattle.chord_live_ring.proofs.Relinked.{beside, in_live, may_take}
 use Rattle.chord_live_ring.proofs.seated_node.SeatedNode.take_candidate.Goals as goal
+
+pub relink-requires-clause-live : goal.relink-requires-clause-live
+relink-requires-clause-live g c = (in_live c.args.self.now.crashed c.args.self.now.node.phase c.requires.live).0
 
 pub relink-requires-clause-step : goal.relink-requires-clause-step
 relink-requires-clause-step g c =
+    let mine = c.args.self.now in
+    let candidate = c.args.candidate.now in
     let read = c.links.ensures ∙ ap (λ (s : Seated). s.node.links) c.self.view_is in
     let theirs = c.links-2.ensures ∙ ap (λ (s : Seated). s.node.links) c.candidate.view_is in
     let ok = c.in_ok-take_candidate.ensures.variant.0 refl in
-    may_take c.args.self.now.node c.args.candidate.now.node c.links.result.now c.links-2.result.now c.take_candidate.new.me read theirs c.requires.live
-    (λ gone. true≢false (sym ok.0 ∙ c.is_member-live.ensures.1 gone)) ok.1 c.in_ok-take_candidate.ensures.done
+    let member = sym c.is_member-live.ensures ∙ ok.0 in
+    beside mine.node (record mine.node { links = c.take_candidate.new.me }) candidate member
+    (may_take mine.node candidate.node c.links.result.now c.links-2.result.now c.take_candidate.new.me read theirs (in_live mine.crashed mine.node.phase c.requires.live).1
+    (in_live candidate.crashed candidate.node.phase member).1 ok.1 c.in_ok-take_candidate.ensures.done)

@@ -1,8 +1,0 @@
-use Rattle.std.proofs.Common.{true}
-use Rattle.chord_table.specs.Seen.{OfNode}
-use Rattle.chord_table.specs.Views.{no_message}
-use Rattle.chord_table.proofs.crashed_seat.CrashedSeat.local.Given as goal
-
--- picks the node after the event
-abbrev pub ghosts-local : goal.ghosts-local
-ghosts-local g a = record { actor = OfNode a.after.now true; message = no_message }
