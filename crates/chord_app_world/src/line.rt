@@ -89,6 +89,9 @@ fn step_of_one(word: &str, words: &mut Words) -> Result<Step, LineFault> {
         "crash" => Ok(Step::Crash {
             node: words.number()?,
         }),
+        "rescue" => Ok(Step::Rescue {
+            node: words.number()?,
+        }),
         _ => Err(GrammarFault::NoLine.into()),
     }
 }

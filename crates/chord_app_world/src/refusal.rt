@@ -26,6 +26,7 @@ fn name_of_part(fault: StepFault) -> &'static str {
         StepFault::NumbersSpent => "NumbersSpent",
         StepFault::Idle => "Idle",
         StepFault::Crashed => "Crashed",
+        StepFault::NotCrashed => "NotCrashed",
         StepFault::NotBetween => "NotBetween",
         StepFault::HeadDead => "HeadDead",
         StepFault::NotHead => "NotHead",

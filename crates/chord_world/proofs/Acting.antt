@@ -1,5 +1,5 @@
 -- A node does a step: the world keeps its rules, and so does its ring.
-use Rattle.std.proofs.Common.{◌≡◌, ◌≢◌, ℕ, ◌<◌, ◌≤◌, ◌||◌, Bool, true, false, Option, None, Some, List, [], length, map, set, refl, sym, ◌∙◌, ap, subst, arith}
+use Rattle.std.proofs.Common.{◌≡◌, ◌≢◌, ℕ, ◌<◌, ◌≤◌, ◌||◌, inl, Bool, true, false, Option, None, Some, List, [], length, map, set, refl, sym, ◌∙◌, ap, subst, arith}
 use Rattle.std.specs.Prelude.{slice_get, slice_index_or}
 use Rattle.std.proofs.lemmas.Bool.{true≢false}
 use Rattle.std.proofs.lemmas.List.{length-set}
@@ -16,8 +16,10 @@ use Rattle.chord_model.specs.Node.{Node, NodeStep}
 use Rattle.chord_model.specs.World.{WorldStep, WasSent, put_node, node_at, with_one}
 use Rattle.chord_model.specs.World.WorldStep.{Acts}
 use Rattle.chord_world.specs.declared.refusal.Refusal.TheVariants.{Memory as NoMemory}
-use Rattle.chord_world.specs.Members.{is_gone, links_unless, member_links, members_of, ring_with}
-use Rattle.chord_world.specs.State.{WorldState, NodesFrom, IsKnown, AreKnown, AreAimed, IsWorld, ring_of, is_crashed, KeepsRing}
+use Rattle.chord_world.specs.declared.fate.Fate.{Fate}
+use Rattle.chord_world.specs.declared.fate.Fate.TheVariants as fate
+use Rattle.chord_world.specs.Members.{is_out, is_dead, is_gone, links_unless, member_links, members_of, ring_with}
+use Rattle.chord_world.specs.State.{WorldState, NodesFrom, IsKnown, AreKnown, AreAimed, IsWorld, ring_of, fate_of, is_crashed, KeepsRing}
 use Rattle.chord_world.specs.Steps.{RefusesCreate}
 use Rattle.chord_world.proofs.Placing.{nodes_by, calls_pushed}
 use Rattle.chord_world.proofs.RingLemmas.{ids_same, members_same, members_length, member_past, member_at}
@@ -32,12 +34,13 @@ pub record After (old new : WorldState) : Type 0 where
   pub ring : KeepsRing old new
 
 -- nothing of the ring changed
-pub keeps_same : (view old new : WorldState) → view ≡ old → new.world.nodes ≡ view.world.nodes → new.crashed ≡ view.crashed → KeepsRing old new
-keeps_same view old new same nodes crashed =
+pub keeps_same : (view old new : WorldState) → view ≡ old → new.world.nodes ≡ view.world.nodes → new.fates ≡ view.fates → KeepsRing old new
+keeps_same view old new same nodes fates =
     subst (λ w. KeepsRing w new) same
     (record {
-      principals = λ node principal still. subst (λ ms. IsPrincipal ms node) (λ i. members_of (sym nodes i) (sym crashed i)) principal;
-      crashed = λ number out. (ap (λ cs. slice_index_or cs number false) crashed ∙ out, ap (λ ns. slice_get ns number) nodes);
+      principals = λ node principal still. subst (λ ms. IsPrincipal ms node) (λ i. members_of (sym nodes i) (sym fates i)) principal;
+      dead = λ number dead. ap (λ fs. is_dead (slice_index_or fs number fate.Well)) fates ∙ dead;
+      crashed = λ number out. inl (ap (λ fs. is_out (slice_index_or fs number fate.Well)) fates ∙ out, ap (λ ns. slice_get ns number) nodes);
     })
 
 -- memory ran out before a first node was there: nothing changed
@@ -46,14 +49,14 @@ pub record NotFounded (limits : List ℕ) (old new : WorldState) : Type 0 where
   pub step : new ≡ old
   pub ring : KeepsRing old new
 
-pub not_founded : {S : Type 0} (limit : S → ℕ) (stores : List S) (view old : WorldState) (nodes : List Node) (flags : List Bool) → view ≡ old → length view.world.nodes ≡ 0 → 0 < length stores
-    → nodes ≡ view.world.nodes → flags ≡ view.crashed → NotFounded (map limit stores) old (with_more nodes flags view)
-not_founded limit stores view old nodes flags viewed none some n f =
-    let same = no_room view old nodes flags viewed n f in
+pub not_founded : {S : Type 0} (limit : S → ℕ) (stores : List S) (view old : WorldState) (nodes : List Node) (fates : List Fate) → view ≡ old → length view.world.nodes ≡ 0 → 0 < length stores
+    → nodes ≡ view.world.nodes → fates ≡ view.fates → NotFounded (map limit stores) old (with_more nodes fates view)
+not_founded limit stores view old nodes fates viewed none some n f =
+    let same = no_room view old nodes fates viewed n f in
     record {
       answer = ((ap (λ (w : WorldState). w.world.nodes) (sym viewed) ∙ none_in view.world.nodes none, map_some limit stores some), same);
       step = same;
-      ring = keeps_same view old (with_more nodes flags view) viewed n f;
+      ring = keeps_same view old (with_more nodes fates view) viewed n f;
     }
 
 pub keeps_all : (old : WorldState) → KeepsRing old old
@@ -90,22 +93,28 @@ pub record Acting (place : ℕ) (node after : Node) (taken sent : Option Message
   pub does : NodeStep node taken after sent done
   pub call : SendsCall (length view.world.nodes) (length view.world.callers) sent
   pub aimed : AreAimed (with_one view.world.sent sent) (with_one view.targets target)
-  pub ring : Kept (ring_of view) (ring_with (set view.world.nodes place after) view.crashed)
+  pub ring : Kept (ring_of view) (ring_with (set view.world.nodes place after) view.fates)
 
 -- what the ring reads of the node is unchanged
 pub ring_is : (place : ℕ) (node after : Node) (view : WorldState) → IsWorld view → slice_get view.world.nodes place ≡ Some node → after.links.me ≡ node.links.me
-    → member_links (is_crashed place view) after ≡ member_links (is_crashed place view) node → Kept (ring_of view) (ring_with (set view.world.nodes place after) view.crashed)
+    → member_links (is_dead (fate_of place view)) after ≡ member_links (is_dead (fate_of place view)) node → Kept (ring_of view) (ring_with (set view.world.nodes place after) view.fates)
 ring_is place node after view kept here me links =
     let ids = ids_same place node after view.world.nodes here me in
-    let members = members_same place node after view.world.nodes view.crashed kept.crashed here links in
+    let members = members_same place node after view.world.nodes view.fates kept.fates here links in
     subst (Kept (ring_of view)) (λ i. record { ids = sym ids i; members = sym members i })
     (record { sound = kept.ring (node_there place view.world.nodes node here); principals = λ _ principal _. principal })
 
+-- a node that is dead for the ring may become any node of its identifier
+pub ring_dead : (place : ℕ) (node after : Node) (view : WorldState) → IsWorld view → slice_get view.world.nodes place ≡ Some node → after.links.me ≡ node.links.me
+    → is_dead (fate_of place view) ≡ true → Kept (ring_of view) (ring_with (set view.world.nodes place after) view.fates)
+ring_dead place node after view kept here me dead =
+    ring_is place node after view kept here me (ap (λ d. member_links d after) dead ∙ sym (ap (λ d. member_links d node) dead))
+
 -- its links stay, and it is gone exactly if it was
 pub ring_stays : (place : ℕ) (node after : Node) (view : WorldState) → IsWorld view → slice_get view.world.nodes place ≡ Some node
-    → is_gone after.phase ≡ is_gone node.phase → after.links ≡ node.links → Kept (ring_of view) (ring_with (set view.world.nodes place after) view.crashed)
+    → is_gone after.phase ≡ is_gone node.phase → after.links ≡ node.links → Kept (ring_of view) (ring_with (set view.world.nodes place after) view.fates)
 ring_stays place node after view kept here gone links =
-    ring_is place node after view kept here (ap (λ (l : NodeLinks). l.me) links) (λ i. links_unless (is_crashed place view || gone i) (links i))
+    ring_is place node after view kept here (ap (λ (l : NodeLinks). l.me) links) (λ i. links_unless (is_dead (fate_of place view) || gone i) (links i))
 
 pub acts : (place : ℕ) (node after : Node) (taken sent : Option Message) (target : Option (Option ℕ)) (done : Option Done) (view : WorldState) → IsWorld view
     → Acting place node after taken sent target done view → After view (acted after sent target done view)
@@ -115,7 +124,10 @@ acts place node after taken sent target done view kept acting =
     let put : put_node after view.world.nodes ≡ set view.world.nodes place after = nodes_by.put_is 0 place after view.world.nodes kept.nodes at in
     let there : node_at place view.world.nodes ≡ Some node = nodes_by.found 0 place place view.world.nodes kept.nodes (omega arith) ∙ acting.here in
     let count : length (put_node after view.world.nodes) ≡ length view.world.nodes = ap (λ (ns : List Node). length ns) put ∙ length-set view.world.nodes place after in
-    let ring : ring_of new ≡ ring_with (set view.world.nodes place after) view.crashed = ap (λ ns. ring_with ns view.crashed) put in
+    let ring : ring_of new ≡ ring_with (set view.world.nodes place after) view.fates = ap (λ ns. ring_with ns view.fates) put in
+    let others : (number : ℕ) → is_crashed number view ≡ true → slice_get new.world.nodes number ≡ slice_get view.world.nodes number =
+    (λ number out. ap (λ ns. slice_get ns number) put
+    ∙ got_set_other view.world.nodes place number after (λ same. true≢false (sym out ∙ ap (λ n. is_crashed n view) same ∙ acting.running))) in
     let did : WorldStep view.world new.world = Acts place node after taken sent done there acting.was acting.does in
     record {
       world =
@@ -126,7 +138,8 @@ acts place node after taken sent target done view kept acting =
             targets = acting.aimed;
             calls = subst (λ n. AreKnown n (length view.world.callers) (with_one view.world.sent sent)) (sym count)
                 (calls_with (length view.world.nodes) (length view.world.callers) view.world.sent sent kept.calls acting.call);
-            crashed = kept.crashed ∙ sym count;
+            fates = kept.fates ∙ sym count;
+            crashed = λ number other out there. kept.crashed number other out (sym (others number out) ∙ there);
             ring = λ _. subst IsSound (sym ring) acting.ring.sound;
             low = kept.low;
             high = kept.high;
@@ -137,11 +150,8 @@ acts place node after taken sent target done view kept acting =
             principals = λ number principal still.
                 subst (λ (r : Ring). IsPrincipal r.members number) (sym ring)
                 (acting.ring.principals number principal (subst (λ (r : Ring). is_member r.members number ≡ true) ring still));
-            crashed = λ number out. (
-              out,
-              ap (λ ns. slice_get ns number) put
-                  ∙ got_set_other view.world.nodes place number after (λ same. true≢false (sym out ∙ ap (λ n. is_crashed n view) same ∙ acting.running)),
-            );
+            dead = λ number dead. dead;
+            crashed = λ number out. inl (out, others number out);
           };
     }
 
@@ -161,14 +171,14 @@ put_is place node after nodes view kept here number is =
 
 pub count_is : (count : ℕ) (view old : WorldState) → view ≡ old → IsWorld view → count ≡ length view.world.nodes → count ≡ length (ring_of old).members
 count_is count view old same kept is =
-    is ∙ sym (members_length view.world.nodes view.crashed kept.crashed) ∙ ap (λ (w : WorldState). length (ring_of w).members) same
+    is ∙ sym (members_length view.world.nodes view.fates kept.fates) ∙ ap (λ (w : WorldState). length (ring_of w).members) same
 
 pub none_past : (number : ℕ) (view old : WorldState) → view ≡ old → IsWorld view → length view.world.nodes ≤ number → None ≡ links_of (ring_of old).members number
 none_past number view old same kept past =
-    subst (λ w. None ≡ links_of (ring_of w).members number) same (sym (member_past number view.world.nodes view.crashed kept.crashed past))
+    subst (λ w. None ≡ links_of (ring_of w).members number) same (sym (member_past number view.world.nodes view.fates kept.fates past))
 
-pub links_here : (number : ℕ) (node : Node) (out : Bool) (view old : WorldState) → view ≡ old → IsWorld view → slice_get view.world.nodes number ≡ Some node → is_crashed number view ≡ out
+pub links_here : (number : ℕ) (node : Node) (out : Bool) (view old : WorldState) → view ≡ old → IsWorld view → slice_get view.world.nodes number ≡ Some node → is_dead (fate_of number view) ≡ out
     → member_links out node ≡ links_of (ring_of old).members number
 links_here number node out view old same kept here is =
     subst (λ w. member_links out node ≡ links_of (ring_of w).members number) same
-    (ap (λ b. member_links b node) (sym is) ∙ sym (member_at number view.world.nodes view.crashed node kept.crashed here))
+    (ap (λ b. member_links b node) (sym is) ∙ sym (member_at number view.world.nodes view.fates node kept.fates here))

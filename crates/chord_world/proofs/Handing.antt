@@ -34,8 +34,8 @@ use Rattle.chord_world.specs.Handing.{IsMissing, HasNode, CannotAct, ActIs, CanA
 use Rattle.chord_world.specs.Handing.IsMissing.{Uncreated, Missing}
 use Rattle.chord_world.specs.Handing.CannotAct.{Is_missing, Is_crashed}
 use Rattle.chord_world.specs.Linking.{with_node}
-use Rattle.chord_world.specs.Members.{is_gone, links_unless, member_links}
-use Rattle.chord_world.specs.State.{WorldState, AreAimed, IsWorld, ring_of, with_sent, is_crashed, KeepsRing}
+use Rattle.chord_world.specs.Members.{is_dead, is_gone, links_unless, member_links}
+use Rattle.chord_world.specs.State.{WorldState, AreAimed, IsWorld, ring_of, with_sent, fate_of, is_crashed, KeepsRing}
 use Rattle.chord_world.specs.Steps.{Advances}
 use Rattle.chord_world.specs.Calling.{SentIs}
 use Rattle.chord_world.proofs.Acting.{After, SendsCall, acted, acts_at, keeps_same, ring_stays, put_is, links_here}
@@ -413,14 +413,14 @@ retire_refused place fault view old nodes (Err e) same kept running unneeded doe
       ap (λ ns. with_nodes ns view) (nodes_stay RetireIs MoveSteps place (Err retire.NotEmpty) view.world.nodes nodes did (kept_retire retire.NotEmpty did.node did.after did.is)) ∙ same,
     )
 
--- a leaving node that runs is a member
-pub leaving_member : (place : ℕ) (node : Node) (view old : WorldState) → view ≡ old → IsWorld view → slice_get view.world.nodes place ≡ Some node → is_crashed place old ≡ false → node.phase ≡ phase.Leaving
+-- a leaving node that is not dead for the ring is a member
+pub leaving_member : (place : ℕ) (node : Node) (view old : WorldState) → view ≡ old → IsWorld view → slice_get view.world.nodes place ≡ Some node → is_dead (fate_of place view) ≡ false → node.phase ≡ phase.Leaving
     → is_member (ring_of old).members place ≡ true
-leaving_member place node view old same kept here running leaving =
-    ap is_some (sym (links_here place node (is_crashed place view) view old same kept here refl)) ∙ refl_member
+leaving_member place node view old same kept here alive leaving =
+    ap is_some (sym (links_here place node (is_dead (fate_of place view)) view old same kept here refl)) ∙ refl_member
   where
-    refl_member : is_some (member_links (is_crashed place view) node) ≡ true
-    refl_member = ap (λ out. is_some (member_links out node)) (ap (is_crashed place) same ∙ running) ∙ ap (λ p. is_some (links_unless (is_gone p) node.links)) leaving
+    refl_member : is_some (member_links (is_dead (fate_of place view)) node) ≡ true
+    refl_member = ap (λ dead. is_some (member_links dead node)) alive ∙ ap (λ p. is_some (links_unless (is_gone p) node.links)) leaving
 
 pub unneeded : (place : ℕ) (old : WorldState) → NeededIs place old false → ¬ (IsNeeded place old)
 unneeded place old (inl none) needed = true≢false (sym needed.0 ∙ none)
@@ -430,15 +430,14 @@ can_of : (place : ℕ) (old : WorldState) → NeededIs place old false → is_me
 can_of place old (inl none) member = absurd (true≢false (sym member ∙ none))
 can_of place old (inr can) member = can
 
-pub can_retire : (place : ℕ) (view old : WorldState) (nodes : List Node) → view ≡ old → IsWorld view → is_crashed place old ≡ false → NeededIs place old false
-    → (does : DoesAt RetireIs MoveSteps place view.world.nodes (Ok tt) nodes) → CanDepart (ring_of old).members place
-can_retire place view old nodes same kept running needed does =
-    can_of place old needed (leaving_member place does.node view old same kept does.here running does.is.0)
+can_retire : (place : ℕ) (view old : WorldState) (nodes : List Node) → view ≡ old → IsWorld view → NeededIs place old false
+    → (does : DoesAt RetireIs MoveSteps place view.world.nodes (Ok tt) nodes) → is_dead (fate_of place view) ≡ false → CanDepart (ring_of old).members place
+can_retire place view old nodes same kept needed does alive =
+    can_of place old needed (leaving_member place does.node view old same kept does.here alive does.is.0)
 
 pub retires_after : (place : ℕ) (view old : WorldState) (nodes : List Node) → view ≡ old → IsWorld view → is_crashed place old ≡ false → NeededIs place old false
     → (does : DoesAt RetireIs MoveSteps place view.world.nodes (Ok tt) nodes) → After old (with_nodes nodes view)
 retires_after place view old nodes same kept running needed does =
-    let can = can_retire place view old nodes same kept running needed does in
     subst (λ w. After w (with_nodes nodes view)) same
     (retires place does.node view nodes kept
     (record {
@@ -447,7 +446,7 @@ retires_after place view old nodes same kept running needed does =
       leaving = does.is.0;
       holds_none = does.is.1;
       sends_none = does.is.2;
-      can = subst (λ (w : WorldState). CanDepart (ring_of w).members place) (sym same) can;
+      can = λ alive. subst (λ (w : WorldState). CanDepart (ring_of w).members place) (sym same) (can_retire place view old nodes same kept needed does alive);
     })
     (does.new_is ∙ ap (set view.world.nodes place) does.is.4))
 

@@ -11,5 +11,6 @@ pub mod Answering
 pub mod Pointing
 pub mod Handing
 pub mod Taking
+pub mod Rescuing
 pub mod RunLemmas
 pub mod Holders

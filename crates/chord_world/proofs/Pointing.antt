@@ -8,13 +8,13 @@ use Rattle.chord_model.specs.Node.NodeStep.{Links_change}
 use Rattle.chord_model.specs.World.{node_at, put_node}
 use Rattle.chord_links.specs.NodeLinks.{NodeLinks}
 use Rattle.chord_ring.proofs.Stepping.{Kept, Kept-fingers}
-use Rattle.chord_world.specs.Members.{is_gone, links_unless, member_links, ring_with}
-use Rattle.chord_world.specs.State.{WorldState, IsWorld, ring_of, is_crashed}
+use Rattle.chord_world.specs.Members.{is_dead, is_gone, links_unless, member_links, ring_with}
+use Rattle.chord_world.specs.State.{WorldState, IsWorld, ring_of, fate_of, is_crashed}
 use Rattle.chord_world.specs.Linking.{IsFinger, with_finger_at, with_node, Points, PointsAt}
 use Rattle.chord_world.proofs.Placing.{nodes_by, stands_at, missing_at}
 use Rattle.chord_world.proofs.RingLemmas.{member_at, ring_relinked}
 use Rattle.chord_world.proofs.Keeping.{with_nodes}
-use Rattle.chord_world.proofs.Acting.{After, node_there, ring_is, acts_at}
+use Rattle.chord_world.proofs.Acting.{After, node_there, ring_is, ring_dead, acts_at}
 use Rattle.chord_world.proofs.Posting.{got, slice_get_there}
 
 pub node_stands : (place : ℕ) (view old : WorldState) (node : Node) → view ≡ old → IsWorld view → slice_get view.world.nodes place ≡ Some node → node_at place old.world.nodes ≡ Some node
@@ -28,40 +28,42 @@ pub node_found : (place : ℕ) (view old : WorldState) (node : Node) → view �
 node_found place view old node same kept within is = node_stands place view old node same kept (got view.world.nodes place node within is)
 
 -- the ring after it: unchanged except for the fingers
-pointed_ring : (place finger : ℕ) (peer : Peer) (node : Node) (view : WorldState) → IsWorld view → slice_get view.world.nodes place ≡ Some node → is_crashed place view ≡ false
-    → Kept (ring_of view) (ring_with (set view.world.nodes place (with_finger_at finger peer node)) view.crashed)
-pointed_ring place finger peer node view kept here running =
+pointed_ring : (place finger : ℕ) (peer : Peer) (node : Node) (view : WorldState) → IsWorld view → slice_get view.world.nodes place ≡ Some node
+    → Kept (ring_of view) (ring_with (set view.world.nodes place (with_finger_at finger peer node)) view.fates)
+pointed_ring place finger peer node view kept here =
     let after = with_finger_at finger peer node in
-    elim (cases_Bool (is_gone node.phase)) [
-      | inl gone ↦ ring_is place node after view kept here refl
-          (ap (λ g. links_unless (is_crashed place view || g) after.links) gone
-          ∙ gone_both (is_crashed place view) after.links node.links
-          ∙ sym (ap (λ g. links_unless (is_crashed place view || g) node.links) gone))
-      | inr staying ↦
-          let sound = kept.ring (node_there place view.world.nodes node here) in
-          let member = member_at place view.world.nodes view.crashed node kept.crashed here ∙ ap (λ out. member_links out node) running ∙ ap (λ g. links_unless g node.links) staying in
-          subst (Kept (ring_of view)) (sym (ring_relinked place node after.links view.world.nodes view.crashed kept.crashed here running staying refl))
-          (Kept-fingers (ring_of view) place node.links after.links.fingers sound member)
+    elim (cases_Bool (is_dead (fate_of place view))) [
+      | inl dead ↦ ring_dead place node after view kept here refl dead
+      | inr running ↦ elim (cases_Bool (is_gone node.phase)) [
+        | inl gone ↦ ring_is place node after view kept here refl
+            (ap (λ g. links_unless (is_dead (fate_of place view) || g) after.links) gone
+            ∙ gone_both (is_dead (fate_of place view)) after.links node.links
+            ∙ sym (ap (λ g. links_unless (is_dead (fate_of place view) || g) node.links) gone))
+        | inr staying ↦
+            let sound = kept.ring (node_there place view.world.nodes node here) in
+            let member = member_at place view.world.nodes view.fates node kept.fates here ∙ ap (λ out. member_links out node) running ∙ ap (λ g. links_unless g node.links) staying in
+            subst (Kept (ring_of view)) (sym (ring_relinked place node after.links view.world.nodes view.fates kept.fates here running staying refl))
+            (Kept-fingers (ring_of view) place node.links after.links.fingers sound member)
+      ]
     ]
   where
-    gone_both : (out : Bool) (links other : NodeLinks) → links_unless (out || true) links ≡ links_unless (out || true) other
+    gone_both : (dead : Bool) (links other : NodeLinks) → links_unless (dead || true) links ≡ links_unless (dead || true) other
     gone_both true links other = refl
     gone_both false links other = refl
 
 pub pointed_after : (place finger : ℕ) (peer : Peer) (node : Node) (view old new : WorldState) → view ≡ old → IsWorld view → slice_get view.world.nodes place ≡ Some node → is_crashed place old ≡ false
     → new ≡ with_node (with_finger_at finger peer node) view → After old new
 pointed_after place finger peer node view old new same kept here running is =
-    let runs : is_crashed place view ≡ false = ap (is_crashed place) same ∙ running in
     acts_at place node (with_finger_at finger peer node) None None None None view old new same kept
     (record {
       here = here;
-      running = runs;
+      running = ap (is_crashed place) same ∙ running;
       number = refl;
       was = tt;
       does = Links_change (with_finger_at finger peer node).links refl;
       call = tt;
       aimed = kept.targets;
-      ring = pointed_ring place finger peer node view kept here runs;
+      ring = pointed_ring place finger peer node view kept here;
     })
     is
 

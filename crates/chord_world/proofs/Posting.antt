@@ -116,6 +116,7 @@ sent_is_world caller via request old core after ask there submits kept =
       callers = subst (CallersFrom 0) (sym put) (callers_by.numbered_set 0 caller after old.world.callers kept.callers (omega arith));
       targets = aimed_pushed old.world.sent old.targets (AskMessage ask) (Some via) kept.targets tt;
       calls = subst (λ n. AreKnown (length old.world.nodes) n (old.world.sent ++ AskMessage ask ∷ [])) (sym count) (calls_pushed (length old.world.nodes) (length old.world.callers) old.world.sent (AskMessage ask) kept.calls (omega arith));
+      fates = kept.fates;
       crashed = kept.crashed;
       ring = kept.ring;
       low = kept.low;

@@ -11,7 +11,7 @@ use Rattle.chord_world.specs.declared.refusal.Refusal.{Refusal}
 use Rattle.chord_world.specs.declared.runs.StepResult.{StepResult}
 use Rattle.chord_world.specs.declared.runs.StepResult.TheVariants.{Did, Refused}
 use Rattle.chord_world.specs.declared.step.Step.{Step}
-use Rattle.chord_world.specs.declared.step.Step.TheVariants.{Create, Join, OpenCaller, Submit, Resend, GiveUp, Deliver, Show, Meet, Cut, Merge, Give, SendPart, Leave, Retire, Stabilise, Candidate, DropDead, Rectify, Crash, Finger}
+use Rattle.chord_world.specs.declared.step.Step.TheVariants.{Create, Join, OpenCaller, Submit, Resend, GiveUp, Deliver, Show, Meet, Cut, Merge, Give, SendPart, Leave, Retire, Stabilise, Candidate, DropDead, Rectify, Crash, Rescue, Finger}
 use Rattle.chord_world.specs.State.{WorldState}
 use Rattle.chord_world.specs.Steps.{StepIs, Advances, AdvancesBy, CreateLeaves, StoresLeft}
 use Rattle.chord_world.specs.Runs.{Ran, result_of, limits_left}
@@ -66,6 +66,8 @@ limits_by f (Rectify node notifier) (Did outcome) stores left e = ap (map f) e
 limits_by f (Rectify node notifier) (Refused refusal) stores left e = ap (map f) e
 limits_by f (Crash node) (Did outcome) stores left e = ap (map f) e
 limits_by f (Crash node) (Refused refusal) stores left e = ap (map f) e
+limits_by f (Rescue node) (Did outcome) stores left e = ap (map f) e
+limits_by f (Rescue node) (Refused refusal) stores left e = ap (map f) e
 limits_by f (Finger node finger to) (Did outcome) stores left e = ap (map f) e
 limits_by f (Finger node finger to) (Refused refusal) stores left e = ap (map f) e
 
@@ -99,6 +101,7 @@ run_more first middle last (Stabilise node head) result run step = run_by first 
 run_more first middle last (Candidate node peer) result run step = run_by first middle last result run step
 run_more first middle last (DropDead node) result run step = run_by first middle last result run step
 run_more first middle last (Rectify node notifier) result run step = run_by first middle last result run step
+run_more first middle last (Rescue node) result run step = run_by first middle last result run step
 run_more first middle last (Finger node finger to) result run step = run_by first middle last result run step
 
 pub run_none : (first : World) → ∥ Run first first ∥₁
@@ -130,4 +133,5 @@ vacant_after P (Candidate node peer) result stores left e all = subst (All P) (s
 vacant_after P (DropDead node) result stores left e all = subst (All P) (sym e) all
 vacant_after P (Rectify node notifier) result stores left e all = subst (All P) (sym e) all
 vacant_after P (Crash node) result stores left e all = subst (All P) (sym e) all
+vacant_after P (Rescue node) result stores left e all = subst (All P) (sym e) all
 vacant_after P (Finger node finger to) result stores left e all = subst (All P) (sym e) all

@@ -180,7 +180,7 @@ NeededIs number old true = IsNeeded number old
 NeededIs number old false = (is_member (ring_of old).members number ≡ false) ⊎ CanDepart (ring_of old).members number
 
 abbrev pub DoesRetire : ℕ → WorldState → Outcome → WorldState → Type 0
-DoesRetire number old did.Done new = CanDepart (ring_of old).members number × Moved RetireIs number old new
+DoesRetire number old did.Done new = NeededIs number old false × Moved RetireIs number old new
 DoesRetire number old outcome new = ⊥
 
 abbrev pub RefusesRetire : ℕ → WorldState → Refusal → Type 0

@@ -1,5 +1,5 @@
 -- What a World answers if a node joins.
-use Rattle.std.specs.Prelude.{◌≡◌, ◌≢◌, ℕ, ◌<◌, ◌^◌, false, Some, Result, Ok, Err, List, [], ◌∷◌, ◌++◌, length, slice_get, IsTrue}
+use Rattle.std.specs.Prelude.{◌≡◌, ◌≢◌, ℕ, ◌<◌, ◌^◌, Some, Result, Ok, Err, List, [], ◌∷◌, ◌++◌, length, slice_get, IsTrue}
 use Rattle.std.specs.List.{Contains}
 use Rattle.chord_ident.specs.declared.id.Id.{Id}
 use Rattle.chord_ident.specs.Circle.{IsBetween}
@@ -14,13 +14,14 @@ use Rattle.chord_world.specs.declared.outcome.Outcome.TheVariants as did
 use Rattle.chord_world.specs.declared.refusal.Refusal.{Refusal}
 use Rattle.chord_world.specs.declared.refusal.Refusal.TheVariants as refused
 use Rattle.chord_world.specs.declared.refusal.StepFault.TheVariants as step_fault
+use Rattle.chord_world.specs.declared.fate.Fate.TheVariants.{Well}
 use Rattle.chord_world.specs.Refusals.{DoneOrRefused}
 use Rattle.chord_world.specs.State.{WorldState, ring_of}
 
 -- the world with one more node with these links and this store limit
 abbrev pub with_newborn : NodeLinks → ℕ → WorldState → WorldState
 with_newborn links limit old =
-    record old { world = record old.world { nodes = old.world.nodes ++ newborn links limit ∷ [] }; crashed = old.crashed ++ false ∷ [] }
+    record old { world = record old.world { nodes = old.world.nodes ++ newborn links limit ∷ [] }; fates = old.fates ++ Well ∷ [] }
 
 -- a node with this identifier and store limit joined behind a member under this number
 pub record JoinsBehind (id : Id) (behind limit : ℕ) (old : WorldState) (number : ℕ) (new : WorldState) : Type 0 where

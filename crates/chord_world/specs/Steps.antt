@@ -1,5 +1,5 @@
 -- What a World answers to a step, and the world afterwards.
-use Rattle.std.specs.Prelude.{◌≡◌, ◌≢◌, ℕ, false, ◌≤◌, Some, Result, Ok, Err, List, [], ◌∷◌, ◌++◌, length, slice_get, drop}
+use Rattle.std.specs.Prelude.{◌≡◌, ◌≢◌, ℕ, ◌≤◌, Some, Result, Ok, Err, List, [], ◌∷◌, ◌++◌, length, slice_get, drop}
 use Rattle.chord_ident.specs.declared.id.Id.{Id}
 use Rattle.chord_links.specs.NodeLinks.{alone}
 use Rattle.chord_ring.specs.declared.ring_step.RingStep.TheVariants as ring
@@ -17,14 +17,15 @@ use Rattle.chord_world.specs.declared.outcome.Outcome.TheVariants as did
 use Rattle.chord_world.specs.declared.refusal.Refusal.{Refusal}
 use Rattle.chord_world.specs.declared.refusal.Refusal.TheVariants as refused
 use Rattle.chord_world.specs.declared.refusal.StepFault.TheVariants as step_fault
+use Rattle.chord_world.specs.declared.fate.Fate.TheVariants.{Well}
 use Rattle.chord_world.specs.declared.step.Step.{Step}
-use Rattle.chord_world.specs.declared.step.Step.TheVariants.{Create, Join, OpenCaller, Submit, Resend, GiveUp, Deliver, Show, Meet, Cut, Merge, Give, SendPart, Leave, Retire, Stabilise, Candidate, DropDead, Rectify, Crash, Finger}
+use Rattle.chord_world.specs.declared.step.Step.TheVariants.{Create, Join, OpenCaller, Submit, Resend, GiveUp, Deliver, Show, Meet, Cut, Merge, Give, SendPart, Leave, Retire, Stabilise, Candidate, DropDead, Rectify, Crash, Rescue, Finger}
 use Rattle.chord_world.specs.Refusals.{refusal_of, DoneOrRefused}
 use Rattle.chord_world.specs.State.{WorldState, IsThere}
 use Rattle.chord_world.specs.Calling.{AreThere, DoesResend, RefusesResend, DoesGiveUp, RefusesGiveUp, DoesShow, RefusesShow, DoesMeet, RefusesMeet}
 use Rattle.chord_world.specs.Linking.{DoesFinger, RefusesFinger}
 use Rattle.chord_world.specs.Joining.{DoesJoin, RefusesJoin}
-use Rattle.chord_world.specs.Upkeep.{DoesUpkeep, RefusesUpkeep, DoesCrash, RefusesCrash}
+use Rattle.chord_world.specs.Upkeep.{DoesUpkeep, RefusesUpkeep, DoesCrash, RefusesCrash, DoesRescue, RefusesRescue}
 use Rattle.chord_world.specs.Handing.{DoesMove, RefusesMove, DoesGive, RefusesGive, DoesSendPart, RefusesSendPart, DoesRetire, RefusesRetire, refusal_of_cut, refusal_of_merge, refusal_of_leave}
 use Rattle.chord_world.specs.Delivered.{Delivers, RefusesDeliver}
 
@@ -43,7 +44,7 @@ AdvancesBy step old result new = Advances old result new
 -- the world with its first node, whose store has this limit
 abbrev pub with_founder : Id → ℕ → WorldState → WorldState
 with_founder id limit old =
-    record old { world = record old.world { nodes = founder (alone (record { number = 0; id = id }) old.r) limit ∷ [] }; crashed = false ∷ [] }
+    record old { world = record old.world { nodes = founder (alone (record { number = 0; id = id }) old.r) limit ∷ [] }; fates = Well ∷ [] }
 
 -- the limits are those of the stores that are left
 abbrev pub DoesCreate : Id → List ℕ → WorldState → Outcome → WorldState → Type 0
@@ -153,6 +154,7 @@ Does (Candidate node peer) limits old outcome new = DoesUpkeep (ring.Candidate n
 Does (DropDead node) limits old outcome new = DoesUpkeep (ring.DropDead node) node old outcome new
 Does (Rectify node notifier) limits old outcome new = DoesUpkeep (ring.Rectify node notifier) node old outcome new
 Does (Crash node) limits old outcome new = DoesCrash node old outcome new
+Does (Rescue node) limits old outcome new = DoesRescue node old outcome new
 Does (Finger node finger to) limits old outcome new = DoesFinger node finger to old outcome new
 
 -- why a step is refused
@@ -177,6 +179,7 @@ Refuses (Candidate node peer) limits old refusal = RefusesUpkeep (ring.Candidate
 Refuses (DropDead node) limits old refusal = RefusesUpkeep (ring.DropDead node) old refusal
 Refuses (Rectify node notifier) limits old refusal = RefusesUpkeep (ring.Rectify node notifier) old refusal
 Refuses (Crash node) limits old refusal = RefusesCrash node old refusal
+Refuses (Rescue node) limits old refusal = RefusesRescue node old refusal
 Refuses (Finger node finger to) limits old refusal = RefusesFinger node finger to old refusal
 
 -- what a step is answered

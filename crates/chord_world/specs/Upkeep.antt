@@ -1,4 +1,4 @@
--- What a World answers to a step of the ring's upkeep, and to a crash.
+-- What a World answers to a step of the ring's upkeep, to a crash and to a rescue.
 use Rattle.std.specs.Prelude.{◌≡◌, ◌≢◌, ℕ, true, false, Some, Result, List, [], slice_get, slice_set, IsTrue}
 use Rattle.std.specs.Option.{option_map}
 use Rattle.chord_links.specs.declared.peer.Peer.{Peer}
@@ -16,9 +16,12 @@ use Rattle.chord_world.specs.declared.outcome.Outcome.{Outcome}
 use Rattle.chord_world.specs.declared.outcome.Outcome.TheVariants as did
 use Rattle.chord_world.specs.declared.refusal.Refusal.{Refusal}
 use Rattle.chord_world.specs.declared.refusal.Refusal.TheVariants as refused
+use Rattle.chord_world.specs.declared.refusal.StepFault.TheVariants as step_fault
+use Rattle.chord_world.specs.declared.fate.Fate.TheVariants as fate
 use Rattle.chord_world.specs.Refusals.{refusal_of_ring, DoneOrRefused}
-use Rattle.chord_world.specs.State.{WorldState, ring_of}
+use Rattle.chord_world.specs.State.{WorldState, ring_of, is_crashed, leaving}
 use Rattle.chord_world.specs.Linking.{with_node}
+use Rattle.chord_world.specs.Handing.{IsMissing, HasNode}
 
 -- ---- links
 
@@ -70,7 +73,7 @@ UpkeepIs step number = DoneOrRefused (DoesUpkeep step number) (RefusesUpkeep ste
 
 -- the world after this node crashed
 abbrev pub with_crash : ℕ → WorldState → WorldState
-with_crash number old = record old { crashed = slice_set old.crashed number true }
+with_crash number old = record old { fates = slice_set old.fates number fate.Crashed }
 
 abbrev pub DoesCrash : ℕ → WorldState → Outcome → WorldState → Type 0
 DoesCrash number old did.Done new = CanDepart (ring_of old).members number × (new ≡ with_crash number old)
@@ -84,3 +87,27 @@ RefusesCrash number old refusal = ⊥
 
 abbrev pub CrashIs : ℕ → WorldState → Result Outcome Refusal → WorldState → Type 0
 CrashIs number = DoneOrRefused (DoesCrash number) (RefusesCrash number)
+
+-- ---- a rescue
+
+-- the world after this node was rescued
+abbrev pub with_rescue : ℕ → Node → WorldState → WorldState
+with_rescue number node old = record (with_node (leaving node) old) { fates = slice_set old.fates number fate.Rescued }
+
+-- the crashed node of this number was rescued
+pub record Rescues (number : ℕ) (old new : WorldState) : Type 0 where
+  pub node : Node
+  pub here : node_at number old.world.nodes ≡ Some node
+  pub crashed : is_crashed number old ≡ true
+  pub new_is : new ≡ with_rescue number node old
+
+abbrev pub DoesRescue : ℕ → WorldState → Outcome → WorldState → Type 0
+DoesRescue number old did.Done new = Rescues number old new
+DoesRescue number old outcome new = ⊥
+
+abbrev pub RefusesRescue : ℕ → WorldState → Refusal → Type 0
+RefusesRescue number old (refused.Step step_fault.NotCrashed) = HasNode number old × (is_crashed number old ≡ false)
+RefusesRescue number old refusal = IsMissing number old refusal
+
+abbrev pub RescueIs : ℕ → WorldState → Result Outcome Refusal → WorldState → Type 0
+RescueIs number = DoneOrRefused (DoesRescue number) (RefusesRescue number)

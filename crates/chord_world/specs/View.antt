@@ -6,6 +6,6 @@ abbrev pub state_of : {S : Type 0} → Inside S → WorldState
 state_of a = record {
   world = record { nodes = a.nodes.items; callers = a.callers.items; sent = messages_of a.sent.items; history = a.history.calls };
   targets = targets_of a.sent.items;
-  crashed = a.crashed.items;
+  fates = a.fates.items;
   r = a.r;
 }

@@ -3,9 +3,12 @@ ghost use Rattle.std.specs.Prelude.{◌≡◌, slice_index_or, false, map, IsTru
 ghost use Rattle.std.specs.List.{Contains};
 ghost use Rattle.std.specs.Option.{option_copied};
 ghost use Rattle.chord_ring.specs.Ring.{links_of};
+ghost use Rattle.chord_world.specs.declared.fate.Fate.TheVariants as fate;
 ghost use Rattle.chord_world.specs.Members.{member_links, id_of_node};
+ghost use Rattle.chord_world.specs.Members as members;
 ghost use Rattle.chord_world.specs.State.{ring_of};
 
+use crate::fate::Fate;
 use crate::world::World;
 use chord_ident::Id;
 use chord_links::Links;
@@ -13,17 +16,29 @@ use chord_node::{Node, Phase};
 use chord_ring::MemberReader;
 use chord_store::EntryStore;
 
-/// Whether the node of this number crashed, according to these flags.
-pub(crate) fn is_out(crashed: &[bool], number: u64) -> bool
-    ensures { result ≡ slice_index_or crashed.now number false }
+/// Whether the node of this number crashed and was not rescued, according to these.
+pub(crate) fn is_out(fates: &[Fate], number: u64) -> bool
+    ensures { result ≡ members.is_out (slice_index_or fates.now number fate.Well) }
 {
-    match crashed.get(number as usize) {
-        Some(out) => *out,
+    match fates.get(number as usize) {
+        Some(Fate::Crashed) => true,
+        Some(Fate::Well | Fate::Rescued) => false,
         None => false,
     }
 }
 
-/// The links of a node that has not crashed, if it is a member.
+/// Whether the node of this number is dead for the ring, according to these.
+fn is_dead(fates: &[Fate], number: u64) -> bool
+    ensures { result ≡ members.is_dead (slice_index_or fates.now number fate.Well) }
+{
+    match fates.get(number as usize) {
+        Some(Fate::Crashed | Fate::Rescued) => true,
+        Some(Fate::Well) => false,
+        None => false,
+    }
+}
+
+/// The links of a node that never crashed, if it is a member.
 fn links_of_member<S: EntryStore>(node: &Node<S>) -> Option<&Links>
     ensures { option_copied result ≡ member_links false node.now }
 {
@@ -50,7 +65,7 @@ impl<S: EntryStore> MemberReader for World<S> {
     ghost ring = { λ state. ring_of state };
 
     fn member(&self, number: u64) -> Option<&Links> {
-        if number >= self.nodes.len() as u64 || is_out(&self.crashed, number) {
+        if number >= self.nodes.len() as u64 || is_dead(&self.fates, number) {
             return None;
         }
         links_of_member(&self.nodes[number as usize])

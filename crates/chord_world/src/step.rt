@@ -103,8 +103,12 @@ pub enum Step {
         node: u64,
         notifier: u64,
     },
-    /// The member crashes: it does nothing more, and is dead for the others.
+    /// The member crashes: it does nothing until it is rescued, and is dead for the others.
     Crash {
+        node: u64,
+    },
+    /// The crashed node takes steps again, as a leaving node that is no member.
+    Rescue {
         node: u64,
     },
     /// The finger of this node, 1 to 128, is set to the node `to`.

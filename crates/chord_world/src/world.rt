@@ -9,6 +9,7 @@ ghost use Rattle.chord_world.specs.Steps.{StepIs, StoresLeft, AdvancesBy};
 ghost use Rattle.chord_world.specs.Runs.{MineIs, ToldIs, StandsOnOneRing};
 ghost use Rattle.chord_world.specs.Linking.{LinksAre};
 
+use crate::fate::Fate;
 use crate::outcome::Outcome;
 use crate::refusal::Refusal;
 use crate::sent::Sent;
@@ -31,7 +32,7 @@ pub struct World<S: EntryStore> {
     pub(crate) nodes: Vec<Node<S>>,
     pub(crate) callers: Vec<CallerCore>,
     pub(crate) sent: Vec<Sent>,
-    pub(crate) crashed: Vec<bool>,
+    pub(crate) fates: Vec<Fate>,
     pub(crate) history: History,
 }
 
@@ -60,7 +61,7 @@ impl<S: EntryStore> World<S> {
             nodes: Vec::new(alloc),
             callers: Vec::new(alloc),
             sent: Vec::new(alloc),
-            crashed: Vec::new(alloc),
+            fates: Vec::new(alloc),
             history: History::new(alloc),
         }
     }
@@ -179,6 +180,7 @@ impl<S: EntryStore> World<S> {
             Step::DropDead { node } => self.drop_dead(*node),
             Step::Rectify { node, notifier } => self.rectify(*node, *notifier),
             Step::Crash { node } => self.crash(*node),
+            Step::Rescue { node } => self.rescue(*node),
             Step::Finger { node, finger, to } => self.finger(*node, *finger, *to),
         }
     }

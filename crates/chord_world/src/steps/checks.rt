@@ -26,7 +26,7 @@ impl<S: EntryStore> World<S> {
         ensures { ActIs node self.now result }
     {
         self.is_there(node)?;
-        if is_out(&self.crashed, node) {
+        if is_out(&self.fates, node) {
             return Err(Refusal::Step(StepFault::Crashed));
         }
         Ok(())

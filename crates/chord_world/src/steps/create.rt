@@ -1,10 +1,12 @@
 //! The first node.
-ghost use Rattle.std.specs.Prelude.{◌≡◌, ◌<◌, [], ◌∷◌, ◌++◌, map, false, OnOk};
+ghost use Rattle.std.specs.Prelude.{◌≡◌, ◌<◌, [], ◌∷◌, ◌++◌, map, OnOk};
 ghost use Rattle.std.specs.List.{All};
 ghost use Rattle.std.specs.Vec.{vec_len, vec_capacity};
+ghost use Rattle.chord_world.specs.declared.fate.Fate.TheVariants.{Well};
 ghost use Rattle.chord_world.specs.State.{KeepsRing};
 ghost use Rattle.chord_world.specs.Steps.{CreateIs, CreateLeaves, Advances};
 
+use crate::fate::Fate;
 use crate::outcome::Outcome;
 use crate::refusal::Refusal;
 use crate::world::World;
@@ -28,31 +30,31 @@ fn put_back<S: EntryStore>(stores: &mut Vec<S>, store: S)
 /// Reserves room for one more node.
 pub(crate) fn room_for_node<S: EntryStore>(
     nodes: &mut Vec<Node<S>>,
-    crashed: &mut Vec<bool>,
+    fates: &mut Vec<Fate>,
 ) -> Result<(), AllocError>
     ensures nodes { nodes.new.items ≡ nodes.old.items }
-    ensures crashed { crashed.new.items ≡ crashed.old.items }
+    ensures fates { fates.new.items ≡ fates.old.items }
     ensures nodes_room { OnOk result (vec_len nodes.new < vec_capacity nodes.new) }
-    ensures crashed_room { OnOk result (vec_len crashed.new < vec_capacity crashed.new) }
+    ensures fates_room { OnOk result (vec_len fates.new < vec_capacity fates.new) }
 {
     nodes.reserve(1)?;
-    crashed.reserve(1)?;
+    fates.reserve(1)?;
     Ok(())
 }
 
 /// Adds a node, which has not crashed.
 pub(crate) fn add_node<S: EntryStore>(
     nodes: &mut Vec<Node<S>>,
-    crashed: &mut Vec<bool>,
+    fates: &mut Vec<Fate>,
     node: Node<S>,
 )
     requires nodes_room { vec_len nodes.old < vec_capacity nodes.old }
-    requires crashed_room { vec_len crashed.old < vec_capacity crashed.old }
+    requires fates_room { vec_len fates.old < vec_capacity fates.old }
     ensures nodes { nodes.new.items ≡ nodes.old.items ++ node ∷ [] }
-    ensures crashed { crashed.new.items ≡ crashed.old.items ++ false ∷ [] }
+    ensures fates { fates.new.items ≡ fates.old.items ++ Well ∷ [] }
 {
     nodes.push_reserved(node);
-    crashed.push_reserved(false);
+    fates.push_reserved(Fate::Well);
 }
 
 impl<S: EntryStore> World<S> {
@@ -70,13 +72,13 @@ impl<S: EntryStore> World<S> {
         if stores.is_empty() {
             return Err(Refusal::NoStore);
         }
-        if room_for_node(&mut self.nodes, &mut self.crashed).is_err() {
+        if room_for_node(&mut self.nodes, &mut self.fates).is_err() {
             return Err(Refusal::Memory);
         }
         let store = stores.remove(0);
         match Node::found(self.alloc, Peer { number: 0, id }, self.r, store) {
             Ok(node) => {
-                add_node(&mut self.nodes, &mut self.crashed, node);
+                add_node(&mut self.nodes, &mut self.fates, node);
                 Ok(Outcome::Node(0))
             }
             Err(store) => {

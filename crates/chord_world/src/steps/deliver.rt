@@ -132,7 +132,7 @@ impl<S: EntryStore> World<S> {
         if to >= self.nodes.len() as u64 {
             return Err(Refusal::NoSuchNode);
         }
-        if is_out(&self.crashed, to) {
+        if is_out(&self.fates, to) {
             return Err(Refusal::Step(StepFault::Crashed));
         }
         Ok(to)

@@ -38,7 +38,7 @@ impl<S: EntryStore> World<S> {
         if node >= count || to >= count {
             return Err(Refusal::NoSuchNode);
         }
-        if is_out(&self.crashed, node) {
+        if is_out(&self.fates, node) {
             return Err(Refusal::Step(StepFault::Crashed));
         }
         if finger < 1 || 128 < finger {

@@ -41,7 +41,10 @@ fn merge_in<S: EntryStore>(
 }
 
 /// The node of this number begins to leave.
-fn leave_in<S: EntryStore>(nodes: &mut Vec<Node<S>>, number: usize) -> Result<(), NotStaying>
+pub(crate) fn leave_in<S: EntryStore>(
+    nodes: &mut Vec<Node<S>>,
+    number: usize,
+) -> Result<(), NotStaying>
     requires { number < length nodes.old.items }
     ensures { DoesAt LeaveIs MoveSteps number nodes.old.items result nodes.new.items }
 {

@@ -55,12 +55,12 @@ impl<S: EntryStore> World<S> {
     {
         let links = self.links_to_join(stores, id, behind)?;
         let number = self.nodes.len() as u64;
-        if room_for_node(&mut self.nodes, &mut self.crashed).is_err() {
+        if room_for_node(&mut self.nodes, &mut self.fates).is_err() {
             return Err(Refusal::Memory);
         }
         let store = stores.remove(0);
         let node = Node::newborn(self.alloc, links, store);
-        add_node(&mut self.nodes, &mut self.crashed, node);
+        add_node(&mut self.nodes, &mut self.fates, node);
         Ok(Outcome::Node(number))
     }
 }

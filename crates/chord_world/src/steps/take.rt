@@ -120,7 +120,7 @@ impl<S: EntryStore> World<S> {
         ensures step { Advances self.old result self.new }
         ensures ring { KeepsRing self.old self.new }
     {
-        if is_out(&self.crashed, to) {
+        if is_out(&self.fates, to) {
             return Err(Refusal::Step(StepFault::Crashed));
         }
         if self.sent.reserve(1).is_err() {
@@ -145,7 +145,7 @@ impl<S: EntryStore> World<S> {
         ensures step { Advances self.old result self.new }
         ensures ring { KeepsRing self.old self.new }
     {
-        if is_out(&self.crashed, got.from) {
+        if is_out(&self.fates, got.from) {
             return Err(Refusal::Step(StepFault::Crashed));
         }
         let freed = free_in(&mut self.nodes, got.from as usize, &got);
@@ -164,7 +164,7 @@ impl<S: EntryStore> World<S> {
         ensures step { Advances self.old result self.new }
         ensures ring { KeepsRing self.old self.new }
     {
-        if is_out(&self.crashed, declined.from) {
+        if is_out(&self.fates, declined.from) {
             return Err(Refusal::Step(StepFault::Crashed));
         }
         chord_node::laws::no_delivery_clashes();

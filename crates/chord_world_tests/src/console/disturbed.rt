@@ -349,6 +349,83 @@ const CRASHED: &[Row] = &[
     ("history", "history 0"),
 ];
 
+/// A crashed node is rescued, and hands over what it held; then it is gone. A call that it executed
+/// before is sent again behind the rescue, and acts once.
+const RESCUED: &[Row] = &[
+    ("rescue 1", "refused 2 NotCreated"),
+    ("create 40000000000000000000000000000000", "node 0"),
+    ("caller", "caller 0"),
+    ("join c0000000000000000000000000000000 0", "node 1"),
+    ("cut 0 0 c0000000000000000000000000000000", "ok"),
+    ("give 0 0 1", "message 0"),
+    ("deliver 0", "got 1"),
+    ("insert 0 1 616263 78", "message 2"),
+    ("deliver 2", "told 3"),
+    ("rescue 9", "refused 3 NoSuchNode"),
+    ("rescue 1", "refused 9 NotCrashed"),
+    ("crash 1", "ok"),
+    ("deliver 2", "refused 9 Crashed"),
+    ("rescue 1", "ok"),
+    ("rescue 1", "refused 9 NotCrashed"),
+    ("leave 1", "refused 9 NotStaying"),
+    ("crash 1", "refused 3 NoSuchNode"),
+    ("stabilise 1", "refused 3 NoSuchNode"),
+    ("rectify 1 0", "refused 3 NoSuchNode"),
+    ("retire 1", "refused 9 NotEmpty"),
+    ("holder a9993e364706816aba3e25717850c26c", "node 1"),
+    ("give 1 0 0", "message 4"),
+    ("deliver 4", "got 5"),
+    ("deliver 5", "freed"),
+    ("retire 1", "ok"),
+    ("rescue 1", "refused 9 NotCrashed"),
+    ("resend 0 0", "message 6"),
+    ("deliver 6", "told 7"),
+    ("deliver 7", "fresh added"),
+    ("deliver 3", "known"),
+    ("holder a9993e364706816aba3e25717850c26c", "node 0"),
+    ("history", "history 1"),
+];
+
+/// A node that was leaving when it crashed takes each kind of message that is for it behind the
+/// rescue, cuts, merges and sends a part again. The ring goes on without it.
+const RESCUED_LEAVING: &[Row] = &[
+    ("create 40000000000000000000000000000000", "node 0"),
+    ("caller", "caller 0"),
+    ("join c0000000000000000000000000000000 0", "node 1"),
+    ("join 80000000000000000000000000000000 0", "node 2"),
+    ("candidate 0 2", "ok"),
+    ("cut 0 0 c0000000000000000000000000000000", "ok"),
+    ("give 0 0 1", "message 0"),
+    ("leave 2", "ok"),
+    ("retire 2", "ok"),
+    ("deliver 0", "got 1"),
+    ("give 1 0 2", "message 2"),
+    ("deliver 2", "declined 3"),
+    ("leave 1", "ok"),
+    ("insert 0 1 616263 78", "message 4"),
+    ("crash 1", "ok"),
+    ("deliver 3", "refused 9 Crashed"),
+    ("part 1 2 1 1", "refused 9 Crashed"),
+    ("rescue 1", "ok"),
+    ("part 1 2 1 1", "message 5"),
+    ("deliver 3", "held"),
+    ("deliver 4", "told 6"),
+    ("cut 1 0 80000000000000000000000000000000", "ok"),
+    ("merge 1 0 1", "ok"),
+    ("give 0 0 1", "message 7"),
+    ("deliver 7", "got 8"),
+    ("deliver 8", "freed"),
+    ("finger 1 1 0", "ok"),
+    ("drop 0", "ok"),
+    ("list 0", "list 0"),
+    (
+        "join 80000000000000000000000000000001 1",
+        "refused 3 NoSuchNode",
+    ),
+    ("candidate 0 1", "refused 9 Dead"),
+    ("history", "history 1"),
+];
+
 /// Each script, with how many pairs the stores have room for.
 const SCRIPTS: &[(&[u64], &[Row])] = &[
     (ROOMY, CALLS),
@@ -371,6 +448,9 @@ const GIVEN_UP_SCRIPTS: &[(&[u64], &[Row])] = &[
     (&[1], GIVEN_UP_TWICE),
 ];
 
+/// Crashed nodes that are rescued.
+const RESCUE_SCRIPTS: &[(&[u64], &[Row])] = &[(ROOMY, RESCUED), (THREE, RESCUED_LEAVING)];
+
 /// Runs each script, and checks each line that it writes.
 fn run_all<R: Abort>(rt: &R, alloc: Global, scripts: &[(&[u64], &[Row])]) -> Result<(), Fail> {
     for (limits, rows) in scripts {
@@ -388,6 +468,11 @@ fn messages_are_disturbed(rt: HostRuntime) -> Result<(), Fail> {
 #[test]
 fn requests_are_given_up(rt: HostRuntime) -> Result<(), Fail> {
     run_all(&rt, rt.alloc(), GIVEN_UP_SCRIPTS)
+}
+
+#[test]
+fn crashed_nodes_are_rescued(rt: HostRuntime) -> Result<(), Fail> {
+    run_all(&rt, rt.alloc(), RESCUE_SCRIPTS)
 }
 
 /// The second of two parts comes first, twice, and once more after the handover was taken.

@@ -9,14 +9,14 @@ use Rattle.chord_world.proofs.Acting.{keeps_same}
 use Rattle.chord_world.proofs.Answering.{sent_here, stays}
 use Rattle.chord_world.proofs.Handing.{nodes_stay, left_world}
 use Rattle.chord_world.proofs.Keeping.{with_nodes}
-use Rattle.chord_world.proofs.RingLemmas.{flag_old}
+use Rattle.chord_world.proofs.RingLemmas.{fate_old}
 use Rattle.chord_world.proofs.Taking.{numbered, declined_ends, giver_out, back_stays, back_takes, back_fits, back_after, back_delivers}
 use Rattle.chord_world.proofs.world.World.deliver_declined.Goals as goal
 
 pub returns-then-is_out-clause-answer : goal.returns-then-is_out-clause-answer
 returns-then-is_out-clause-answer g c = (
   giver_out c.args.place (DeclinedMessage c.args.declined) c.args.declined.from _ c.args.self.now c.self.view_is c.self.invariant c.requires.declined (λ ends. ends.0) (λ sent. Declined_for c.args.declined sent)
-      (flag_old c.args.declined.from _ c.args.self.now _ _ c.self.view_is c.deref.ensures.value c.is_out.ensures c.if-is_out.true),
+      (fate_old c.args.declined.from _ c.args.self.now _ _ c.self.view_is c.deref.ensures.value c.is_out.ensures c.if-is_out.true),
   refl,
 )
 
@@ -43,7 +43,7 @@ returns-in_default g c =
     let sent = sent_here view c.args.self.now c.args.place _ c.self.view_is c.requires.declined in
     let does : DoesAt (BackIs c.args.declined) (BackSteps c.args.declined) c.args.declined.from view.world.nodes (Err _) c.take_back_in.new.nodes.items = c.in_default.ensures in
     let same = nodes_stay (BackIs c.args.declined) (BackSteps c.args.declined) c.args.declined.from (Err _) view.world.nodes c.take_back_in.new.nodes.items does (back_stays c.args.declined _ does.node does.after does.is) in
-    let running = flag_old c.args.declined.from view c.args.self.now _ _ c.self.view_is c.deref.ensures.value c.is_out.ensures c.if-is_out.false in record {
+    let running = fate_old c.args.declined.from view c.args.self.now _ _ c.self.view_is c.deref.ensures.value c.is_out.ensures c.if-is_out.false in record {
       answer = stays view c.args.self.now _ c.args.place c.self.view_is
           (back_takes c.args.place c.args.declined _ view c.args.self.now does.node does.after c.self.view_is c.self.invariant sent does.here running does.is) (ap (λ ns. with_nodes ns view) same);
       step = ap (λ ns. with_nodes ns view) same ∙ c.self.view_is;
@@ -54,7 +54,7 @@ pub invariant_of-self-2 : goal.invariant_of-self-2
 invariant_of-self-2 g c =
     let view : WorldState = state_of c.self.inside in
     let sent = sent_here view c.args.self.now c.args.place _ c.self.view_is c.requires.declined in
-    let running = flag_old c.args.declined.from view c.args.self.now _ _ c.self.view_is c.deref.ensures.value c.is_out.ensures c.if-is_out.false in
+    let running = fate_old c.args.declined.from view c.args.self.now _ _ c.self.view_is c.deref.ensures.value c.is_out.ensures c.if-is_out.false in
     let does : DoesAt (BackIs c.args.declined) (BackSteps c.args.declined) c.args.declined.from view.world.nodes (Ok c.in-Ok.back) c.take_back_in.new.nodes.items = c.in-Ok.ensures in
     (back_after c.args.place c.args.declined c.in-Ok.back view c.args.self.now c.take_back_in.new.nodes.items c.self.view_is c.self.invariant running sent does).world
 
@@ -62,7 +62,7 @@ pub returns : goal.returns
 returns g c =
     let view : WorldState = state_of c.self.inside in
     let sent = sent_here view c.args.self.now c.args.place _ c.self.view_is c.requires.declined in
-    let running = flag_old c.args.declined.from view c.args.self.now _ _ c.self.view_is c.deref.ensures.value c.is_out.ensures c.if-is_out.false in
+    let running = fate_old c.args.declined.from view c.args.self.now _ _ c.self.view_is c.deref.ensures.value c.is_out.ensures c.if-is_out.false in
     let does : DoesAt (BackIs c.args.declined) (BackSteps c.args.declined) c.args.declined.from view.world.nodes (Ok c.in-Ok.back) c.take_back_in.new.nodes.items = c.in-Ok.ensures in
     let after = back_after c.args.place c.args.declined c.in-Ok.back view c.args.self.now c.take_back_in.new.nodes.items c.self.view_is c.self.invariant running sent does in record {
       answer = back_delivers c.args.place c.args.declined c.in-Ok.back view c.args.self.now c.take_back_in.new.nodes.items c.outcome_of_declined.result c.self.view_is c.self.invariant running sent does c.outcome_of_declined.ensures;

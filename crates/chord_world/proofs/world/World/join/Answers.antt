@@ -1,4 +1,5 @@
-use Rattle.std.proofs.Common.{false, ◌∷◌, ◌++◌, [], map, refl, sym, ◌∙◌, ap, arith, rules}
+use Rattle.std.proofs.Common.{◌∷◌, ◌++◌, [], map, refl, sym, ◌∙◌, ap, arith, rules}
+use Rattle.chord_world.specs.declared.fate.Fate.TheVariants.{Well}
 use Rattle.chord_world.specs.View.{state_of}
 use Rattle.chord_world.specs.State.{WorldState}
 use Rattle.chord_world.proofs.Keeping.{limit_first, some_first, no_room}
@@ -22,10 +23,10 @@ pub returns-then-is_err : goal.returns-then-is_err
 returns-then-is_err g c =
     let view : WorldState = state_of c.self.inside in
     let can = c.in_ok-links.ensures in
-    let same = no_room view c.args.self.now _ _ c.self.view_is c.room_for_node.ensures.nodes c.room_for_node.ensures.crashed in record {
+    let same = no_room view c.args.self.now _ _ c.self.view_is c.room_for_node.ensures.nodes c.room_for_node.ensures.fates in record {
       answer = (((can.pred, can.may.is_its, can.may.is_unused, can.may.is_between), can.stocked), same);
       step = same;
-      ring = keeps_same view c.args.self.now _ c.self.view_is c.room_for_node.ensures.nodes c.room_for_node.ensures.crashed;
+      ring = keeps_same view c.args.self.now _ c.self.view_is c.room_for_node.ensures.nodes c.room_for_node.ensures.fates;
       stores = refl;
     }
 
@@ -33,14 +34,14 @@ pub invariant_of-self-2 : goal.invariant_of-self-2
 invariant_of-self-2 g c =
     let view : WorldState = state_of c.self.inside in
     let pushed = c.add_node.ensures.nodes ∙ ap (λ ns. ns ++ c.newborn-node.result ∷ []) c.room_for_node.ensures.nodes ∙ ap (λ n. view.world.nodes ++ n ∷ []) c.newborn-node.ensures in
-    let flagged = c.add_node.ensures.crashed ∙ ap (λ fs. fs ++ false ∷ []) c.room_for_node.ensures.crashed in
+    let flagged = c.add_node.ensures.fates ∙ ap (λ fs. fs ++ Well ∷ []) c.room_for_node.ensures.fates in
     (can_join_at c.args.id c.args.behind _ (map g.S.EntryStore.limit c.args.stores.now.items) c.len-number.result c.in_ok-links.links view c.args.self.now _ _ c.self.view_is c.self.invariant c.in_ok-links.ensures (omega arith) pushed flagged).after.world
 
 pub returns : goal.returns
 returns g c =
     let view : WorldState = state_of c.self.inside in
     let pushed = c.add_node.ensures.nodes ∙ ap (λ ns. ns ++ c.newborn-node.result ∷ []) c.room_for_node.ensures.nodes ∙ ap (λ n. view.world.nodes ++ n ∷ []) c.newborn-node.ensures in
-    let flagged = c.add_node.ensures.crashed ∙ ap (λ fs. fs ++ false ∷ []) c.room_for_node.ensures.crashed in
+    let flagged = c.add_node.ensures.fates ∙ ap (λ fs. fs ++ Well ∷ []) c.room_for_node.ensures.fates in
     let after = can_join_at c.args.id c.args.behind _ (map g.S.EntryStore.limit c.args.stores.now.items) c.len-number.result c.in_ok-links.links view c.args.self.now _ _ c.self.view_is c.self.invariant c.in_ok-links.ensures (omega arith) pushed flagged in
     let some = some_first g.S.EntryStore.limit c.args.stores.now.items c.in_ok-links.ensures.stocked in record {
       answer = (g.S.EntryStore.limit c.remove-store.result, limit_first g.S.EntryStore.limit c.args.stores.now.items c.remove-store.result some c.remove-store.ensures.value, after.joins);
@@ -57,5 +58,5 @@ remove-store-requires g c =
 pub add_node-requires-clause-nodes_room : goal.add_node-requires-clause-nodes_room
 add_node-requires-clause-nodes_room g c = of_ok c.room_for_node.result (sym c.is_err.ensures.value ∙ c.if-is_err.false) c.room_for_node.ensures.nodes_room
 
-pub add_node-requires-clause-crashed_room : goal.add_node-requires-clause-crashed_room
-add_node-requires-clause-crashed_room g c = of_ok c.room_for_node.result (sym c.is_err.ensures.value ∙ c.if-is_err.false) c.room_for_node.ensures.crashed_room
+pub add_node-requires-clause-fates_room : goal.add_node-requires-clause-fates_room
+add_node-requires-clause-fates_room g c = of_ok c.room_for_node.result (sym c.is_err.ensures.value ∙ c.if-is_err.false) c.room_for_node.ensures.fates_room

@@ -2,7 +2,7 @@ use Rattle.std.proofs.Common.{refl, arith}
 use Rattle.chord_world.specs.View.{state_of}
 use Rattle.chord_world.specs.State.{WorldState}
 use Rattle.chord_world.proofs.Posting.{slice_get_there}
-use Rattle.chord_world.proofs.RingLemmas.{flag_old}
+use Rattle.chord_world.proofs.RingLemmas.{fate_old}
 use Rattle.chord_world.proofs.Answering.{place_within, read_target, has_target, sent_here, astray, for_crashed, is_receiver}
 use Rattle.chord_world.proofs.world.World.receiver.Goals as goal
 
@@ -32,7 +32,7 @@ returns-then-is_out g c =
     let target = read_target c.self.inside.sent.items c.args.place c.index.result.now c.in-Some.to (place_within c.self.inside.sent.items c.self.inside.sent.items c.args.place _ refl sent) c.index.ensures c.in-Some.is in
     let there = slice_get_there view.world.nodes c.in-Some.to (omega arith) in
     for_crashed c.args.place c.in-Some.to c.requires.0 there.0 view c.args.self.now c.self.view_is c.self.invariant sent target there.1
-    (flag_old c.in-Some.to view c.args.self.now _ _ c.self.view_is c.deref.ensures.value c.is_out.ensures c.if-is_out.true)
+    (fate_old c.in-Some.to view c.args.self.now _ _ c.self.view_is c.deref.ensures.value c.is_out.ensures c.if-is_out.true)
 
 pub returns : goal.returns
 returns g c =
@@ -40,4 +40,4 @@ returns g c =
     let sent = sent_here view c.args.self.now c.args.place _ c.self.view_is c.requires.1 in
     is_receiver c.args.place c.in-Some.to view c.args.self.now c.self.view_is
     (read_target c.self.inside.sent.items c.args.place c.index.result.now c.in-Some.to (place_within c.self.inside.sent.items c.self.inside.sent.items c.args.place _ refl sent) c.index.ensures c.in-Some.is)
-    (omega arith) (flag_old c.in-Some.to view c.args.self.now _ _ c.self.view_is c.deref.ensures.value c.is_out.ensures c.if-is_out.false)
+    (omega arith) (fate_old c.in-Some.to view c.args.self.now _ _ c.self.view_is c.deref.ensures.value c.is_out.ensures c.if-is_out.false)

@@ -4,7 +4,7 @@ use Rattle.chord_world.specs.Handing.{NeededIs, DoesAt}
 use Rattle.chord_world.specs.Handing.CannotAct.{Is_missing}
 use Rattle.chord_world.specs.View.{state_of}
 use Rattle.chord_world.specs.State.{WorldState}
-use Rattle.chord_world.proofs.Handing.{moved, left_world, left_step, retire_not, kept_retire, retire_refused, unneeded, can_retire, retires_after, retire_number}
+use Rattle.chord_world.proofs.Handing.{moved, left_world, left_step, retire_not, kept_retire, retire_refused, unneeded, retires_after, retire_number}
 use Rattle.chord_world.proofs.world.World.retire.Goals as goal
 
 pub returns-in_err-is_there-clause-answer : goal.returns-in_err-is_there-clause-answer
@@ -50,7 +50,7 @@ returns g c =
     let does : DoesAt RetireIs MoveSteps c.args.node view.world.nodes (Ok tt) c.retire_in.new.nodes.items = c.in_ok-retire_in.ensures in
     let after = retires_after c.args.node view c.args.self.now c.retire_in.new.nodes.items c.self.view_is c.self.invariant c.in_ok-can_act.ensures.1 needed does in record {
       answer = (
-        can_retire c.args.node view c.args.self.now c.retire_in.new.nodes.items c.self.view_is c.self.invariant c.in_ok-can_act.ensures.1 needed does,
+        needed,
         moved RetireIs MoveSteps c.args.node view c.args.self.now c.retire_in.new.nodes.items c.self.view_is c.self.invariant c.in_ok-can_act.ensures.1 does (retire_number does.node does.after does.is),
       );
       step = after.step;
