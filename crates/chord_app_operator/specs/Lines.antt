@@ -43,7 +43,7 @@ outbox_text (o ∷ os) = item_text o ++ flat_map further_item os
 -- the row of a node: which it is, what it holds, and what it gives away
 abbrev pub name_cells : NodeSight → List ℕ
 name_cells n =
-    right 4 (decimal n.number) ++ (codes "  " ++ (id_hex n.id ++ (codes "  " ++ (left 7 (phase_word n.phase) ++ codes "  "))))
+    right 4 (decimal n.number) ++ (codes "  " ++ (id_hex n.id ++ (codes "  " ++ (left 8 (phase_word n.phase) ++ codes "  "))))
 
 abbrev pub held_cells : NodeSight → List ℕ
 held_cells n =
@@ -79,7 +79,7 @@ server_lines r = server_line r ++ premise_line r.premise
 
 -- a ring: the lines of the server, one with the names of the columns, and a row for each node
 abbrev pub columns : List ℕ
-columns = codes "node  identifier                        phase      share      pairs  segments  outbox\n"
+columns = codes "node  identifier                        phase       share      pairs  segments  outbox\n"
 
 unfoldable pub ring_table : RingSight → List ℕ
 ring_table r = server_lines r ++ (columns ++ flat_map node_row r.nodes.items)

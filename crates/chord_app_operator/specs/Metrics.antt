@@ -3,7 +3,7 @@
 use Rattle.std.specs.Prelude.{ℕ, List, [], ◌∷◌, ◌++◌, length, map, codes, decimal, Bool, if◌then◌else◌, ◌==◌}
 use Rattle.std.specs.List.{flat_map, count_by}
 use Rattle.chord_sight.specs.declared.phase.Phase.{Phase}
-use Rattle.chord_sight.specs.declared.phase.Phase.TheVariants.{Staying, Leaving, Gone, Crashed}
+use Rattle.chord_sight.specs.declared.phase.Phase.TheVariants.{Staying, Leaving, Gone, Crashed, Rescuing}
 use Rattle.chord_app_operator.specs.declared.sight.node.StoredNode.{StoredNode}
 use Rattle.chord_sight.specs.declared.node.NodeSight.{NodeSight}
 use Rattle.chord_app_operator.specs.declared.sight.ring.RingSight.{RingSight}
@@ -37,6 +37,7 @@ phase_number Staying = 0
 phase_number Leaving = 1
 phase_number Gone = 2
 phase_number Crashed = 3
+phase_number Rescuing = 4
 
 abbrev pub is_in : Phase → StoredNode → Bool
 is_in phase n = phase_number n.sight.phase == phase_number phase
@@ -88,7 +89,8 @@ metrics =
     OfRing (codes "{phase=\"staying\"}") (ring.Nodes Staying) ∷
     OfRing (codes "{phase=\"leaving\"}") (ring.Nodes Leaving) ∷
     OfRing (codes "{phase=\"gone\"}") (ring.Nodes Gone) ∷
-    OfRing (codes "{phase=\"crashed\"}") (ring.Nodes Crashed) ∷ [])
+    OfRing (codes "{phase=\"crashed\"}") (ring.Nodes Crashed) ∷
+    OfRing (codes "{phase=\"rescuing\"}") (ring.Nodes Rescuing) ∷ [])
     ∷ gauge (codes "chord_ring_premise") (codes "1 as long as the ring allowed each crash.") (OfRing (codes "") ring.Premise ∷ [])
     ∷ gauge (codes "chord_pairs") (codes "Pairs that a node holds.") (OfNodes (codes "") node.Pairs ∷ [])
     ∷ gauge (codes "chord_segments") (codes "Segments that a node holds.") (OfNodes (codes "") node.Segments ∷ [])

@@ -8,7 +8,7 @@ use Rattle.chord_ident.specs.Circle.{key_id}
 use Rattle.chord_app_operator.specs.declared.request.verb.Verb.{Verb}
 use Rattle.chord_app_operator.specs.declared.request.verb.Verb.TheVariants.{Look, Act}
 use Rattle.chord_app_operator.specs.declared.request.resource.Resource.{Resource}
-use Rattle.chord_app_operator.specs.declared.request.resource.Resource.TheVariants.{Page, Ring, Metrics, Health, Nodes, Leave, Crash, Holder, Pairs, Stop}
+use Rattle.chord_app_operator.specs.declared.request.resource.Resource.TheVariants.{Page, Ring, Metrics, Health, Nodes, Leave, Crash, Rescue, Holder, Pairs, Stop}
 
 -- one looks at a resource or acts on it
 abbrev pub verb_of : Resource → Verb
@@ -19,6 +19,7 @@ verb_of Health = Look
 verb_of Nodes = Act
 verb_of (Leave node) = Act
 verb_of (Crash node) = Act
+verb_of (Rescue node) = Act
 verb_of (Holder id) = Look
 verb_of Pairs = Look
 verb_of Stop = Act
@@ -53,10 +54,11 @@ plain_resource path =
 abbrev pub node_before : List ℕ → List ℕ → Option ℕ
 node_before verb path = option_and_then number_of (option_and_then (before verb) (behind (codes "/nodes/") path))
 
--- /nodes/N/leave and /nodes/N/crash
+-- /nodes/N/leave, /nodes/N/crash and /nodes/N/rescue
 abbrev pub node_resource : List ℕ → Option Resource
 node_resource path =
-    option_or (option_map Leave (node_before (codes "/leave") path)) (option_map Crash (node_before (codes "/crash") path))
+    option_or (option_map Leave (node_before (codes "/leave") path)) (
+    option_or (option_map Crash (node_before (codes "/crash") path)) (option_map Rescue (node_before (codes "/rescue") path)))
 
 -- /holder/KEY, whose key is percent-encoded
 abbrev pub holder_resource : List ℕ → Option Resource

@@ -9,6 +9,7 @@ use Rattle.chord_app_operator.specs.declared.request.calls.PairsRequest.{PairsRe
 use Rattle.chord_app_operator.specs.declared.operator.refusals.JoinRefusal.{JoinRefusal}
 use Rattle.chord_app_operator.specs.declared.operator.refusals.LeaveRefusal.{LeaveRefusal}
 use Rattle.chord_app_operator.specs.declared.operator.refusals.CrashRefusal.{CrashRefusal}
+use Rattle.chord_app_operator.specs.declared.operator.refusals.RescueRefusal.{RescueRefusal}
 use Rattle.chord_app_operator.specs.declared.operator.holder.Holder.{Holder}
 use Rattle.chord_app_operator.specs.declared.operator.pairs.PairsPage.{PairsPage}
 
@@ -19,6 +20,7 @@ pub data Question : Type 0 where
   Join : JoinRequest → Question
   Leave : ℕ → Question
   Crash : CrashRequest → Question
+  Rescue : ℕ → Question
   Hold : Id → Question
   ReadPairs : PairsRequest → Question
   Stop : Question
@@ -30,6 +32,7 @@ pub data Answer : Type 0 where
   Joined : Result ℕ JoinRefusal → Answer
   BeganToLeave : Result ⊤ LeaveRefusal → Answer
   HasCrashed : Result ⊤ CrashRefusal → Answer
+  RescueBegan : Result ⊤ RescueRefusal → Answer
   Held : Holder → Answer
   PairsRead : Result PairsPage AllocError → Answer
   Stopping : Answer

@@ -11,7 +11,7 @@ use Rattle.chord_app_operator.specs.declared.request.format.Format.TheVariants.{
 use Rattle.chord_app_operator.specs.declared.request.refusal.Refusal.{Refusal}
 use Rattle.chord_app_operator.specs.declared.request.refusal.Refusal.TheVariants.{ForeignHost, ForeignOrigin, NoSuchPath, WrongMethod, BodyTooLong, Bad, Memory}
 use Rattle.chord_app_operator.specs.declared.request.resource.Resource.{Resource}
-use Rattle.chord_app_operator.specs.declared.request.resource.Resource.TheVariants.{Page, Ring, Metrics, Health, Nodes, Leave, Crash, Holder, Pairs, Stop}
+use Rattle.chord_app_operator.specs.declared.request.resource.Resource.TheVariants.{Page, Ring, Metrics, Health, Nodes, Leave, Crash, Rescue, Holder, Pairs, Stop}
 use Rattle.chord_app_operator.specs.Words.{allows}
 use Rattle.chord_app_operator.specs.Outcomes.{and_then}
 use Rattle.chord_app_operator.specs.Sites.{is_for_own_host, is_from_own_origin}
@@ -37,6 +37,7 @@ call_at Health query body = Ok Call.Health
 call_at Nodes query body = make Call.Join (and_then join_of (body_object body))
 call_at (Leave node) query body = Ok (Call.Leave node)
 call_at (Crash node) query body = make (λ forced. Call.Crash (record { node = node; is_forced = forced })) (and_then force_of (body_object body))
+call_at (Rescue node) query body = Ok (Call.Rescue node)
 call_at (Holder id) query body = Ok (Call.Holder id)
 call_at Pairs query body = make Call.Pairs (pairs_request query)
 call_at Stop query body = Ok Call.Stop

@@ -17,7 +17,8 @@ use Rattle.chord_app_operator.specs.declared.operator.holder.Holder.{Holder}
 use Rattle.chord_app_operator.specs.declared.operator.refusals.JoinRefusal.{JoinRefusal}
 use Rattle.chord_app_operator.specs.declared.operator.refusals.LeaveRefusal.{LeaveRefusal}
 use Rattle.chord_app_operator.specs.declared.operator.refusals.CrashRefusal.{CrashRefusal}
-use Rattle.chord_app_operator.specs.Questions.{Question, Sight, Health, Join, Leave, Crash, Hold, ReadPairs, Stop, Answer, Seen, IsHealthy, Joined, BeganToLeave, HasCrashed, Held, PairsRead, Stopping}
+use Rattle.chord_app_operator.specs.declared.operator.refusals.RescueRefusal.{RescueRefusal}
+use Rattle.chord_app_operator.specs.Questions.{Question, Sight, Health, Join, Leave, Crash, Rescue, Hold, ReadPairs, Stop, Answer, Seen, IsHealthy, Joined, BeganToLeave, HasCrashed, RescueBegan, Held, PairsRead, Stopping}
 use Rattle.chord_app_operator.specs.Requests.{UnlessMemory, format_of, requested}
 use Rattle.chord_app_operator.specs.Json.{holder_data}
 use Rattle.chord_app_operator.specs.Metrics.{metrics_text}
@@ -44,6 +45,10 @@ abbrev pub ShowsCrash : Format → ℕ → Result ⊤ CrashRefusal → Response 
 ShowsCrash format node (Ok _) response = IsNode format 200 node (codes "crashed") response
 ShowsCrash format node (Err refusal) response = IsRefused format (R.Crash refusal) response
 
+abbrev pub ShowsRescue : Format → ℕ → Result ⊤ RescueRefusal → Response → Type 0
+ShowsRescue format node (Ok _) response = IsNode format 202 node (codes "is being rescued") response
+ShowsRescue format node (Err refusal) response = IsRefused format (R.Rescue refusal) response
+
 abbrev pub ShowsPairs : Format → Result PairsPage AllocError → Response → Type 0
 ShowsPairs format (Ok page) response = IsPairs page response
 ShowsPairs format (Err full) response = IsRefused format R.Memory response
@@ -69,6 +74,8 @@ module _ {O : Type 0} (answers : O → Question → Answer → O → Type 0) whe
       (told : Result ⊤ LeaveRefusal) × answers old (Leave node) (BeganToLeave told) new × OrFull (ShowsLeave format node told response) response
   IsAnswered format (Call.Crash request) old response new =
       (told : Result ⊤ CrashRefusal) × answers old (Crash request) (HasCrashed told) new × OrFull (ShowsCrash format request.node told response) response
+  IsAnswered format (Call.Rescue node) old response new =
+      (told : Result ⊤ RescueRefusal) × answers old (Rescue node) (RescueBegan told) new × OrFull (ShowsRescue format node told response) response
   IsAnswered format (Call.Holder id) old response new =
       (told : Holder) × answers old (Hold id) (Held told) new × OrFull (IsJson 200 (holder_data id told) response) response
   IsAnswered format (Call.Pairs request) old response new =

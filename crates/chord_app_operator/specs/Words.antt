@@ -8,7 +8,7 @@ use Rattle.chord_app_operator.specs.declared.request.verb.Verb.TheVariants.{Look
 use Rattle.chord_app_operator.specs.declared.request.fault.Fault.{Fault}
 use Rattle.chord_app_operator.specs.declared.request.fault.Fault.TheVariants.{NotJson, NotObject, UnknownMember, BadId, BadStore, BadLimit, BadVia, BadForce, BadAfter, UnknownParameter}
 use Rattle.chord_app_operator.specs.declared.request.refusal.Refusal.{Refusal}
-use Rattle.chord_app_operator.specs.declared.request.refusal.Refusal.TheVariants.{ForeignHost, ForeignOrigin, NoSuchPath, WrongMethod, BodyTooLong, Bad, Join, Leave, Crash, Memory}
+use Rattle.chord_app_operator.specs.declared.request.refusal.Refusal.TheVariants.{ForeignHost, ForeignOrigin, NoSuchPath, WrongMethod, BodyTooLong, Bad, Join, Leave, Crash, Rescue, Memory}
 use Rattle.chord_app_operator.specs.declared.operator.pairs.PageState.{PageState}
 use Rattle.chord_app_operator.specs.declared.operator.pairs.PageState.TheVariants.{Held, UnderWay, Lost}
 use Rattle.chord_app_operator.specs.declared.operator.refusals.JoinRefusal.{JoinRefusal}
@@ -17,6 +17,8 @@ use Rattle.chord_app_operator.specs.declared.operator.refusals.LeaveRefusal.{Lea
 use Rattle.chord_app_operator.specs.declared.operator.refusals.LeaveRefusal.TheVariants as L
 use Rattle.chord_app_operator.specs.declared.operator.refusals.CrashRefusal.{CrashRefusal}
 use Rattle.chord_app_operator.specs.declared.operator.refusals.CrashRefusal.TheVariants as C
+use Rattle.chord_app_operator.specs.declared.operator.refusals.RescueRefusal.{RescueRefusal}
+use Rattle.chord_app_operator.specs.declared.operator.refusals.RescueRefusal.TheVariants as R
 
 -- the word of a kind of store
 abbrev pub store_word : StoreKind → List ℕ
@@ -88,6 +90,13 @@ crash_refusal_name C.NoSuchNode = codes "NoSuchNode"
 crash_refusal_name C.NotLive = codes "NotLive"
 crash_refusal_name C.Unsafe = codes "Unsafe"
 
+-- the names of a rescue's refusals
+abbrev pub rescue_refusal_name : RescueRefusal → List ℕ
+rescue_refusal_name R.NoSuchNode = codes "NoSuchNode"
+rescue_refusal_name R.NotCrashed = codes "NotCrashed"
+rescue_refusal_name R.NoMember = codes "NoMember"
+rescue_refusal_name R.Stopped = codes "Stopped"
+
 -- the name of a refusal
 abbrev pub refusal_name : Refusal → List ℕ
 refusal_name ForeignHost = codes "ForeignHost"
@@ -99,6 +108,7 @@ refusal_name (Bad fault) = fault_name fault
 refusal_name (Join refusal) = join_refusal_name refusal
 refusal_name (Leave refusal) = leave_refusal_name refusal
 refusal_name (Crash refusal) = crash_refusal_name refusal
+refusal_name (Rescue refusal) = rescue_refusal_name refusal
 refusal_name Memory = codes "Memory"
 
 -- a join that is refused conflicts with what the ring is, unless memory ran out
@@ -116,6 +126,12 @@ crash_status C.NoSuchNode = 404
 crash_status C.NotLive = 409
 crash_status C.Unsafe = 409
 
+abbrev pub rescue_status : RescueRefusal → ℕ
+rescue_status R.NoSuchNode = 404
+rescue_status R.NotCrashed = 409
+rescue_status R.NoMember = 409
+rescue_status R.Stopped = 409
+
 -- the status of a refusal (RFC 9110, section 15; 507: RFC 4918, section 11.5)
 abbrev pub refusal_status : Refusal → ℕ
 refusal_status ForeignHost = 403
@@ -127,4 +143,5 @@ refusal_status (Bad fault) = 400
 refusal_status (Join refusal) = join_status refusal
 refusal_status (Leave refusal) = leave_status refusal
 refusal_status (Crash refusal) = crash_status refusal
+refusal_status (Rescue refusal) = rescue_status refusal
 refusal_status Memory = 507

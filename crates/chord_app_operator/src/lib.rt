@@ -13,6 +13,7 @@ mod sight;
 
 pub use operator::{
     CrashRefusal, Holder, JoinRefusal, LeaveRefusal, Operator, PageState, Pair, PairsPage,
+    RescueRefusal,
 };
 pub use request::{
     CrashRequest, Fault, Format, JoinRequest, OperatorCall, PairsRequest, Refusal, Resource, Site,

@@ -7,5 +7,5 @@ mod trait_operator;
 
 pub use holder::Holder;
 pub use pairs::{PageState, Pair, PairsPage};
-pub use refusals::{CrashRefusal, JoinRefusal, LeaveRefusal};
+pub use refusals::{CrashRefusal, JoinRefusal, LeaveRefusal, RescueRefusal};
 pub use trait_operator::Operator;

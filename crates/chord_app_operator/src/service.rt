@@ -202,6 +202,30 @@ fn crash<O: Operator>(
     or_full(shown, response);
 }
 
+fn rescue<O: Operator>(
+    alloc: Global,
+    format: Format,
+    operator: &mut O,
+    node: u64,
+    response: &mut Response,
+)
+    requires { IsBlank response.old }
+    ensures { IsAnswered O.answers format (Call.Rescue node) operator.old response.new operator.new }
+{
+    let shown = match operator.rescue(node) {
+        Ok(()) => show_node(
+            alloc,
+            format,
+            StatusCode::ACCEPTED,
+            node,
+            "is being rescued",
+            response,
+        ),
+        Err(refusal) => refuse(alloc, format, Refusal::Rescue(refusal), response),
+    };
+    or_full(shown, response);
+}
+
 fn holder<O: Operator>(alloc: Global, operator: &mut O, id: Id, response: &mut Response)
     requires { IsBlank response.old }
     ensures { (format : Format) → IsAnswered O.answers format (Call.Holder id) operator.old response.new operator.new }
@@ -254,6 +278,7 @@ fn answer<O: Operator>(
         OperatorCall::Join(request) => join(alloc, format, operator, request, response),
         OperatorCall::Leave(node) => leave(alloc, format, operator, node, response),
         OperatorCall::Crash(request) => crash(alloc, format, operator, request, response),
+        OperatorCall::Rescue(node) => rescue(alloc, format, operator, node, response),
         OperatorCall::Holder(id) => holder(alloc, operator, id, response),
         OperatorCall::Pairs(request) => pairs(alloc, format, operator, request, response),
         OperatorCall::Stop => stop(operator, response),

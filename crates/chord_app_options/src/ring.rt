@@ -155,6 +155,12 @@ fn crash_command<'a>(alloc: Global) -> Result<Command<'a>, AllocError> {
     with_argument(crash, force)
 }
 
+fn rescue_command<'a>(alloc: Global) -> Result<Command<'a>, AllocError> {
+    Command::new(alloc, "rescue")
+        .about("A node that crashed is rescued: one that stays takes over what it held")
+        .arg(node_argument(alloc))
+}
+
 fn dump_command<'a>(alloc: Global) -> Command<'a> {
     Command::new(alloc, "dump")
         .about("Writes all pairs, in the order of their identifiers")
@@ -183,6 +189,7 @@ pub fn ring_command<'a>(alloc: Global) -> Result<Command<'a>, AllocError> {
     let ring = with_command(ring, join_command(alloc));
     let ring = with_command(ring, leave_command(alloc));
     let ring = with_command(ring, crash_command(alloc));
+    let ring = with_command(ring, rescue_command(alloc));
     let ring = with_command(ring, Ok(dump_command(alloc)));
     let ring = with_command(ring, Ok(restore_command(alloc)));
     let stop = Command::new(alloc, "stop").about("The server ends");
@@ -234,6 +241,7 @@ fn command_of<'a>(found: &ArgMatches<'a>) -> Result<RingCommand, RingWrong<'a>> 
             node: node_of(below)?,
             is_forced: below.get_flag("force"),
         })),
+        Some(("rescue", below)) => Ok(RingCommand::Rescue(node_of(below)?)),
         Some(("stop", _)) => Ok(RingCommand::Stop),
         _ => Ok(RingCommand::Show),
     }

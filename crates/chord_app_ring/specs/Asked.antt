@@ -13,7 +13,7 @@ use Rattle.chord_app_operator.specs.declared.request.calls.PairsRequest.{PairsRe
 use Rattle.chord_app_operator.specs.Words.{store_word}
 use Rattle.chord_app_operator.specs.Json.{count_data, id_hex, id_data, record_of}
 use Rattle.chord_app_ring.specs.declared.command.RingCommand.{RingCommand}
-use Rattle.chord_app_ring.specs.declared.command.RingCommand.TheVariants.{Show, Join, Leave, Crash, Stop}
+use Rattle.chord_app_ring.specs.declared.command.RingCommand.TheVariants.{Show, Join, Leave, Crash, Rescue, Stop}
 
 -- one looks by GET, and acts by POST
 abbrev pub method_of : RingCommand → List ℕ
@@ -21,6 +21,7 @@ method_of Show = codes "GET"
 method_of (Join request) = codes "POST"
 method_of (Leave node) = codes "POST"
 method_of (Crash request) = codes "POST"
+method_of (Rescue node) = codes "POST"
 method_of Stop = codes "POST"
 
 -- the path
@@ -29,6 +30,7 @@ path_of Show = codes "/ring"
 path_of (Join request) = codes "/nodes"
 path_of (Leave node) = codes "/nodes/" ++ decimal node ++ codes "/leave"
 path_of (Crash request) = codes "/nodes/" ++ decimal request.node ++ codes "/crash"
+path_of (Rescue node) = codes "/nodes/" ++ decimal node ++ codes "/rescue"
 path_of Stop = codes "/stop"
 
 -- a member that may be absent
@@ -54,6 +56,7 @@ body_of Show = []
 body_of (Join request) = compact_text (join_data request)
 body_of (Leave node) = []
 body_of (Crash request) = if request.is_forced then compact_text force_data else []
+body_of (Rescue node) = []
 body_of Stop = []
 
 -- its length is stated where one acts
@@ -62,6 +65,7 @@ size_of Show = Empty
 size_of (Join request) = Known (length (body_of (Join request)))
 size_of (Leave node) = Known 0
 size_of (Crash request) = Known (length (body_of (Crash request)))
+size_of (Rescue node) = Known 0
 size_of Stop = Known 0
 
 -- the limits of what a server may send

@@ -13,6 +13,8 @@ pub enum RingCommand {
     /// The node with this number is to leave.
     Leave(u64),
     Crash(CrashRequest),
+    /// The node with this number, which crashed, is to be rescued.
+    Rescue(u64),
     /// The server is to end.
     Stop,
 }

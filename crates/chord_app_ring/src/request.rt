@@ -24,6 +24,7 @@ pub fn request_path(alloc: Global, command: &RingCommand) -> Result<String, Allo
             let node = request.node;
             format!(in alloc; "/nodes/{node}/crash")
         }
+        RingCommand::Rescue(node) => format!(in alloc; "/nodes/{node}/rescue"),
         RingCommand::Stop => String::from_str(alloc, "/stop"),
     }
 }

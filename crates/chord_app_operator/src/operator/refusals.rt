@@ -1,6 +1,6 @@
 //! Why an operator does not do what it is asked for.
 ghost use Rattle.std.specs.Prelude.{◌≡◌};
-ghost use Rattle.chord_app_operator.specs.Words.{join_refusal_name, leave_refusal_name, crash_refusal_name};
+ghost use Rattle.chord_app_operator.specs.Words.{join_refusal_name, leave_refusal_name, crash_refusal_name, rescue_refusal_name};
 
 use std::fmt;
 use thiserror::Error;
@@ -30,6 +30,15 @@ pub enum CrashRefusal {
     NoSuchNode,
     NotLive,
     Unsafe,
+}
+
+/// Why a node that crashed is not rescued.
+#[derive(Clone, Copy, Debug, PartialEq, Eq, Error)]
+pub enum RescueRefusal {
+    NoSuchNode,
+    NotCrashed,
+    NoMember,
+    Stopped,
 }
 
 impl JoinRefusal {
@@ -104,6 +113,30 @@ impl CrashRefusal {
     }
 }
 
+impl RescueRefusal {
+    /// Its name in an answer.
+    pub fn name(self) -> &'static str
+        ensures { result.now ≡ rescue_refusal_name self }
+    {
+        match self {
+            RescueRefusal::NoSuchNode => "NoSuchNode",
+            RescueRefusal::NotCrashed => "NotCrashed",
+            RescueRefusal::NoMember => "NoMember",
+            RescueRefusal::Stopped => "Stopped",
+        }
+    }
+
+    /// Why, in words.
+    pub(crate) fn text(self) -> &'static str {
+        match self {
+            RescueRefusal::NoSuchNode => "no node has the number",
+            RescueRefusal::NotCrashed => "the node did not crash, or is rescued already",
+            RescueRefusal::NoMember => "no node stays that could take over what it holds",
+            RescueRefusal::Stopped => "the server stops",
+        }
+    }
+}
+
 impl fmt::Display for JoinRefusal {
     fn fmt<W: fmt::Write>(&self, f: &mut fmt::Formatter<W>) -> fmt::Result {
         f.write_str(self.text())
@@ -117,6 +150,12 @@ impl fmt::Display for LeaveRefusal {
 }
 
 impl fmt::Display for CrashRefusal {
+    fn fmt<W: fmt::Write>(&self, f: &mut fmt::Formatter<W>) -> fmt::Result {
+        f.write_str(self.text())
+    }
+}
+
+impl fmt::Display for RescueRefusal {
     fn fmt<W: fmt::Write>(&self, f: &mut fmt::Formatter<W>) -> fmt::Result {
         f.write_str(self.text())
     }

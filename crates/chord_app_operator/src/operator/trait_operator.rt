@@ -1,10 +1,10 @@
 //! The operator of a ring.
 ghost use Rattle.std.specs.Prelude.{};
-ghost use Rattle.chord_app_operator.specs.Questions.{Question, Sight, Health, Join, Leave, Crash, Hold, ReadPairs, Stop, Answer, Seen, IsHealthy, Joined, BeganToLeave, HasCrashed, Held, PairsRead, Stopping};
+ghost use Rattle.chord_app_operator.specs.Questions.{Question, Sight, Health, Join, Leave, Crash, Rescue, Hold, ReadPairs, Stop, Answer, Seen, IsHealthy, Joined, BeganToLeave, HasCrashed, RescueBegan, Held, PairsRead, Stopping};
 
 use super::holder::Holder;
 use super::pairs::PairsPage;
-use super::refusals::{CrashRefusal, JoinRefusal, LeaveRefusal};
+use super::refusals::{CrashRefusal, JoinRefusal, LeaveRefusal, RescueRefusal};
 use crate::request::{CrashRequest, JoinRequest, PairsRequest};
 use crate::sight::RingSight;
 use chord_ident::Id;
@@ -34,6 +34,10 @@ pub trait Operator {
     /// The node crashes.
     fn crash(&mut self, request: CrashRequest) -> Result<(), CrashRefusal>
         ensures { answers self.old (Crash request) (HasCrashed result) self.new };
+
+    /// The node with this number, which crashed, begins to be rescued.
+    fn rescue(&mut self, node: u64) -> Result<(), RescueRefusal>
+        ensures { answers self.old (Rescue node) (RescueBegan result) self.new };
 
     /// Who holds the identifier.
     fn holder(&mut self, id: Id) -> Holder

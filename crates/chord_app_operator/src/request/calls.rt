@@ -44,6 +44,8 @@ pub enum OperatorCall {
     /// The node with this number is to leave.
     Leave(u64),
     Crash(CrashRequest),
+    /// The node with this number, which crashed, is to be rescued.
+    Rescue(u64),
     /// The holder of this identifier.
     Holder(Id),
     Pairs(PairsRequest),

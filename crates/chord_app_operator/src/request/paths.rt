@@ -61,13 +61,13 @@ fn number_before(verb: &[u8], path: &[u8]) -> Option<u64>
 fn node(path: &[u8]) -> Option<Resource>
     ensures { result ≡ node_resource path.now }
 {
-    match number_before(b"/leave", path) {
-        Some(number) => Some(Resource::Leave(number)),
-        None => match number_before(b"/crash", path) {
-            Some(number) => Some(Resource::Crash(number)),
-            None => None,
-        },
+    if let Some(number) = number_before(b"/leave", path) {
+        return Some(Resource::Leave(number));
     }
+    if let Some(number) = number_before(b"/crash", path) {
+        return Some(Resource::Crash(number));
+    }
+    Some(Resource::Rescue(number_before(b"/rescue", path)?))
 }
 
 fn holder(alloc: Global, path: &[u8]) -> Result<Option<Resource>, AllocError>

@@ -126,6 +126,7 @@ impl Resource {
             Resource::Nodes => join(alloc, body),
             Resource::Leave(node) => Ok(OperatorCall::Leave(node)),
             Resource::Crash(node) => crash(alloc, node, body),
+            Resource::Rescue(node) => Ok(OperatorCall::Rescue(node)),
             Resource::Holder(id) => Ok(OperatorCall::Holder(id)),
             Resource::Pairs => pairs(query),
             Resource::Stop => Ok(OperatorCall::Stop),

@@ -4,7 +4,7 @@ ghost use Rattle.chord_app_operator.specs.Words.{refusal_name, refusal_status};
 
 use super::fault::Fault;
 use super::verb::Verb;
-use crate::operator::{CrashRefusal, JoinRefusal, LeaveRefusal};
+use crate::operator::{CrashRefusal, JoinRefusal, LeaveRefusal, RescueRefusal};
 use http::StatusCode;
 use std::fmt;
 use thiserror::Error;
@@ -21,6 +21,7 @@ pub enum Refusal {
     Join(JoinRefusal),
     Leave(LeaveRefusal),
     Crash(CrashRefusal),
+    Rescue(RescueRefusal),
     Memory,
 }
 
@@ -33,13 +34,15 @@ impl Refusal {
             Refusal::ForeignHost | Refusal::ForeignOrigin => StatusCode::FORBIDDEN,
             Refusal::NoSuchPath
             | Refusal::Leave(LeaveRefusal::NoSuchNode)
-            | Refusal::Crash(CrashRefusal::NoSuchNode) => StatusCode::NOT_FOUND,
+            | Refusal::Crash(CrashRefusal::NoSuchNode)
+            | Refusal::Rescue(RescueRefusal::NoSuchNode) => StatusCode::NOT_FOUND,
             Refusal::WrongMethod(_) => StatusCode::METHOD_NOT_ALLOWED,
             Refusal::BodyTooLong => StatusCode::PAYLOAD_TOO_LARGE,
             Refusal::Bad(_) => StatusCode::BAD_REQUEST,
             Refusal::Join(JoinRefusal::Memory) | Refusal::Memory =>
                 StatusCode::INSUFFICIENT_STORAGE,
-            Refusal::Join(_) | Refusal::Leave(_) | Refusal::Crash(_) => StatusCode::CONFLICT,
+            Refusal::Join(_) | Refusal::Leave(_) | Refusal::Crash(_) | Refusal::Rescue(_) =>
+                StatusCode::CONFLICT,
         }
     }
 
@@ -57,6 +60,7 @@ impl Refusal {
             Refusal::Join(refusal) => refusal.name(),
             Refusal::Leave(refusal) => refusal.name(),
             Refusal::Crash(refusal) => refusal.name(),
+            Refusal::Rescue(refusal) => refusal.name(),
             Refusal::Memory => "Memory",
         }
     }
@@ -73,6 +77,7 @@ impl Refusal {
             Refusal::Join(why) => why.text(),
             Refusal::Leave(why) => why.text(),
             Refusal::Crash(why) => why.text(),
+            Refusal::Rescue(why) => why.text(),
             Refusal::Memory => "out of memory",
         }
     }

@@ -22,6 +22,8 @@ pub enum Resource {
     Leave(u64),
     /// `/nodes/N/crash`
     Crash(u64),
+    /// `/nodes/N/rescue`
+    Rescue(u64),
     /// `/holder/KEY`, by the key's identifier
     Holder(Id),
     /// `/pairs`
@@ -36,7 +38,11 @@ impl Resource {
         ensures { result ≡ verb_of self }
     {
         match self {
-            Resource::Nodes | Resource::Leave(_) | Resource::Crash(_) | Resource::Stop => Verb::Act,
+            Resource::Nodes
+            | Resource::Leave(_)
+            | Resource::Crash(_)
+            | Resource::Rescue(_)
+            | Resource::Stop => Verb::Act,
             _ => Verb::Look,
         }
     }

@@ -97,7 +97,7 @@ button:hover { border-color: currentColor; }
 <script>
 "use strict";
 const SVG = "http://www.w3.org/2000/svg";
-const PHASES = { staying: "#2e9e5b", leaving: "#d98e04", gone: "#8a8a94", crashed: "#d0342c" };
+const PHASES = { staying: "#2e9e5b", leaving: "#d98e04", gone: "#8a8a94", crashed: "#d0342c", rescuing: "#3b7dd8" };
 // The most pairs that a part of a handover has.
 const PART_PAIRS = 64;
 const MINUTE = 60000;
@@ -110,6 +110,8 @@ const REFUSALS = {
   Stopped: "the ring is stopped.",
   NotStaying: "the node leaves already, or is gone.",
   NotLive: "the node is gone or crashed already.",
+  NotCrashed: "the node did not crash, or is rescued already.",
+  NoMember: "no node stays that could take over what it holds.",
   Unsafe: "the ring would not stand without the node. Tick the box to crash it all the same.",
   BadId: "an identifier has 32 hexadecimal digits.",
   Memory: "the server is out of memory.",
@@ -172,6 +174,7 @@ function mark(phase, x, y, size) {
   if (phase === "crashed") {
     return make("svg:path", { d: `M${x - size} ${y - size} l${2 * size} ${2 * size} M${x - size} ${+y + size} l${2 * size} ${-2 * size}`, stroke: fill, "stroke-width": 3 });
   }
+  if (phase === "rescuing") return make("svg:path", { d: `M${x - size} ${y} h${2 * size} M${x} ${y - size} v${2 * size}`, stroke: fill, "stroke-width": 3 });
   if (phase === "gone") return make("svg:circle", { cx: x, cy: y, r: size - 1, fill: "var(--bg)", stroke: fill, "stroke-width": 2 });
   if (phase === "leaving") return make("svg:path", { d: `M${x} ${y - size - 2} l${size + 2} ${size + 2} l${-size - 2} ${size + 2} l${-size - 2} ${-size - 2} z`, fill, stroke: "var(--bg)", "stroke-width": 1.5 });
   return make("svg:circle", { cx: x, cy: y, r: size, fill, stroke: "var(--bg)", "stroke-width": 1.5 });
@@ -186,7 +189,7 @@ function drawSegments(ring) {
   const most = Math.max(1, ...ring.nodes.map((node) => node.pairs));
   return ring.nodes.flatMap((node) => node.segments.map((segment) => {
     const line = { d: arc(turn(segment.after), turn(segment.upto), 160), fill: "none", stroke: colour(node.node), "stroke-width": (3 + (15 * node.pairs) / most).toFixed(1) };
-    if (!live(node)) line["stroke-dasharray"] = "2 4";
+    if (node.phase === "crashed") line["stroke-dasharray"] = "2 4";
     return titled(make("svg:path", line), `Node ${node.node} holds ${segment.after} to ${segment.upto}`);
   }));
 }
@@ -246,7 +249,7 @@ function namePlaces(nodes, places) {
 }
 
 function drawNodes(ring, places) {
-  const order = ["gone", "staying", "leaving", "crashed"];
+  const order = ["gone", "staying", "leaving", "crashed", "rescuing"];
   const sorted = [...ring.nodes].sort((a, b) => order.indexOf(a.phase) - order.indexOf(b.phase));
   const dots = sorted.map((node) => {
     const [x, y] = point(places.get(node.node), 160);
@@ -289,9 +292,11 @@ function button(text, label, act) {
 function leave(node) { post(`/nodes/${node}/leave`, {}, `Node ${node} begins to leave.`); }
 
 function crash(node) {
-  if (!confirm(`Crash node ${node}? Nobody answers for what it holds from then on.`)) return;
+  if (!confirm(`Crash node ${node}? Nobody answers for what it holds until it is rescued.`)) return;
   post(`/nodes/${node}/crash`, byId("force").checked ? { force: true } : {}, `Node ${node} crashed.`);
 }
+
+function rescue(node) { post(`/nodes/${node}/rescue`, {}, `Node ${node} is being rescued.`); }
 
 // A node's row. It stays in the table, so that a button is there from the press to the release.
 function rowOf(node) {
@@ -305,8 +310,9 @@ function rowOf(node) {
   id.append(make("code", { title: node.id }, `${String(node.id).slice(0, 8)}\u2026`));
   phase.append(row.mark, row.word);
   row.leave = button("Leave", `Leave: node ${node.node}`, () => leave(node.node));
+  row.rescue = button("Rescue", `Rescue: node ${node.node}`, () => rescue(node.node));
   row.crash = button("Crash", `Crash: node ${node.node}`, () => crash(node.node));
-  row.acts.append(row.leave, row.crash);
+  row.acts.append(row.leave, row.rescue, row.crash);
   row.all.append(name, id, phase, row.pairs, row.segments, row.rate, row.acts);
   rows.set(node.node, row);
   byId("nodes").append(row.all);
@@ -326,6 +332,7 @@ function drawTable(ring) {
     row.all.className = live(node) ? "" : "off";
     row.leave.hidden = node.phase !== "staying";
     row.crash.hidden = !live(node);
+    row.rescue.hidden = node.phase !== "crashed";
   }
 }
 

@@ -35,6 +35,7 @@ pub const METRICS: [Metric; 13] = [
             Series::Ring("{phase=\"leaving\"}", RingCount::Nodes(Phase::Leaving)),
             Series::Ring("{phase=\"gone\"}", RingCount::Nodes(Phase::Gone)),
             Series::Ring("{phase=\"crashed\"}", RingCount::Nodes(Phase::Crashed)),
+            Series::Ring("{phase=\"rescuing\"}", RingCount::Nodes(Phase::Rescuing)),
         ],
     },
     Metric {

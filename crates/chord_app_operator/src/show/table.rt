@@ -105,7 +105,7 @@ fn add_name(alloc: Global, text: &mut String, node: &NodeSight) -> Result<(), Al
     text.push_str("  ")?;
     text.push_str(&id)?;
     text.push_str("  ")?;
-    add_left(text, 7, node.phase.word())?;
+    add_left(text, 8, node.phase.word())?;
     text.push_str("  ")
 }
 
@@ -208,7 +208,7 @@ pub fn ring_table(alloc: Global, ring: &RingSight) -> Result<String, AllocError>
     let mut text = String::new(alloc);
     add_head(&mut text, ring)?;
     text.push_str(
-        "node  identifier                        phase      share      pairs  segments  outbox\n",
+        "node  identifier                        phase       share      pairs  segments  outbox\n",
     )?;
     add_rows(alloc, &mut text, &ring.nodes)?;
     Ok(text)

@@ -62,6 +62,7 @@ const LINES: &[(&str, RingCommand)] = &[
         "chord ring --operator 9 crash 7 --force",
         RingCommand::Crash(FORCED_CRASH),
     ),
+    ("chord ring --operator 9 rescue 7", RingCommand::Rescue(7)),
     ("chord ring --operator 9 stop", RingCommand::Stop),
 ];
 
@@ -123,6 +124,9 @@ const REFUSED: &[&str] = &[
     "chord ring --operator 9 leave 10000000000000000000",
     "chord ring --operator 9 leave 2 --force",
     "chord ring --operator 9 crash",
+    "chord ring --operator 9 rescue",
+    "chord ring --operator 9 rescue x",
+    "chord ring --operator 9 --times 1 rescue 7",
     "chord ring --operator 9 copy",
     "chord ring --operator 9 dump 3",
     "chord ring --operator 9 --watch dump",

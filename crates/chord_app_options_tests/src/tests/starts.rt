@@ -225,7 +225,9 @@ fn rings_nobody<T: Threads + Wait + Clock + Net<Listener = TcpListener, Stream =
 
 #[test]
 fn a_ring_that_nobody_serves(rt: HostRuntime) {
-    for words in ["", "--watch", "leave 3", "dump", "restore", "stop"] {
+    for words in [
+        "", "--watch", "leave 3", "rescue 3", "dump", "restore", "stop",
+    ] {
         let (ended, port) = rings_nobody(&rt, &rt, words).unwrap_or((Ok(Finish::Done), 0));
         let reason = io::ErrorKind::ConnectionRefused;
         let wanted = Err(Finish::Fault(Fault::Connect { port, reason }));

@@ -4,7 +4,7 @@ use super::devices::{CONFLICT, NOT_FOUND, ask, serve_text};
 use super::operators::RingValue;
 use crate::checks::check;
 use chord_app_operator::{
-    CrashRefusal, CrashRequest, JoinRefusal, JoinRequest, LeaveRefusal, StoreKind,
+    CrashRefusal, CrashRequest, JoinRefusal, JoinRequest, LeaveRefusal, RescueRefusal, StoreKind,
 };
 use chord_ident::Id;
 use std::test::Fail;
@@ -145,6 +145,38 @@ fn a_crash_is_refused_by_its_name(rt: HostRuntime) -> Result<(), Fail> {
         let mut operator = RingValue::new(rt.alloc());
         operator.crashes = Err(*refusal);
         let seen = ask(&rt, operator, "POST /nodes/3/crash", "")?;
+        let is_refused = seen.is_refused(rt.alloc(), status, name);
+        drop(seen);
+        check!(&rt; is_refused?, name);
+    }
+    Ok(())
+}
+
+#[test]
+fn a_node_is_rescued(rt: HostRuntime) -> Result<(), Fail> {
+    let seen = ask(&rt, RingValue::new(rt.alloc()), "POST /nodes/12/rescue", "")?;
+    check!(&rt; seen.begins("HTTP/1.1 202 Accepted\r\n"));
+    check!(&rt; seen.ends("\r\n\r\n{\"node\":12}"));
+    check!(&rt; seen.operator.rescued == Some(12));
+    check!(&rt; seen.asked(b"r"));
+    drop(seen);
+    Ok(())
+}
+
+/// The same of a rescue.
+const RESCUE_REFUSALS: &[(RescueRefusal, &str, &str)] = &[
+    (RescueRefusal::NotCrashed, CONFLICT, "NotCrashed"),
+    (RescueRefusal::NoMember, CONFLICT, "NoMember"),
+    (RescueRefusal::Stopped, CONFLICT, "Stopped"),
+    (RescueRefusal::NoSuchNode, NOT_FOUND, "NoSuchNode"),
+];
+
+#[test]
+fn a_rescue_is_refused_by_its_name(rt: HostRuntime) -> Result<(), Fail> {
+    for (refusal, status, name) in RESCUE_REFUSALS {
+        let mut operator = RingValue::new(rt.alloc());
+        operator.rescues = Err(*refusal);
+        let seen = ask(&rt, operator, "POST /nodes/12/rescue", "")?;
         let is_refused = seen.is_refused(rt.alloc(), status, name);
         drop(seen);
         check!(&rt; is_refused?, name);

@@ -3,25 +3,27 @@
 use super::sights::ring;
 use chord_app_operator::{
     CrashRefusal, CrashRequest, Holder, JoinRefusal, JoinRequest, LeaveRefusal, Operator,
-    PageState, Pair, PairsPage, PairsRequest, RingSight,
+    PageState, Pair, PairsPage, PairsRequest, RescueRefusal, RingSight,
 };
 use chord_ident::Id;
 use std::alloc::{AllocError, Global};
 
-/// What it answers to a join, a leave and a crash is set before; all else is fixed.
+/// What it answers to a join, a leave, a crash and a rescue is set before; all else is fixed.
 #[derive(Drop)]
 pub struct RingValue {
-    /// A letter for each question: s, h, j, l, c, o (holder), p, t (stop).
+    /// A letter for each question: s, h, j, l, c, r, o (holder), p, t (stop).
     pub asked: Vec<u8>,
     pub join: Option<JoinRequest>,
     pub left: Option<u64>,
     pub crash: Option<CrashRequest>,
+    pub rescued: Option<u64>,
     pub pairs: Option<PairsRequest>,
     pub held: Option<Id>,
     pub is_healthy: bool,
     pub joined: Result<u64, JoinRefusal>,
     pub leaves: Result<(), LeaveRefusal>,
     pub crashes: Result<(), CrashRefusal>,
+    pub rescues: Result<(), RescueRefusal>,
     pub holder: Holder,
     pub has_memory: bool,
 }
@@ -34,12 +36,14 @@ impl RingValue {
             join: None,
             left: None,
             crash: None,
+            rescued: None,
             pairs: None,
             held: None,
             is_healthy: true,
             joined: Ok(4),
             leaves: Ok(()),
             crashes: Ok(()),
+            rescues: Ok(()),
             holder: Holder::Node(3),
             has_memory: true,
         }
@@ -101,6 +105,12 @@ impl Operator for RingValue {
         self.note(b'c');
         self.crash = Some(request);
         self.crashes
+    }
+
+    fn rescue(&mut self, node: u64) -> Result<(), RescueRefusal> {
+        self.note(b'r');
+        self.rescued = Some(node);
+        self.rescues
     }
 
     fn holder(&mut self, id: Id) -> Holder {

@@ -93,6 +93,7 @@ const PATHS: &[Refused] = &[
     ("POST /nodes/x/crash", "", "NoSuchPath"),
     ("POST /nodes/10000000000000000000/crash", "", "NoSuchPath"),
     ("POST /nodes/1/leave/", "", "NoSuchPath"),
+    ("POST /nodes/x/rescue", "", "NoSuchPath"),
     ("GET /holder", "", "NoSuchPath"),
 ];
 
@@ -115,6 +116,7 @@ const WRONG_METHODS: &[(&str, &str)] = &[
     ("GET /nodes", "\r\nallow: POST\r\n"),
     ("GET /nodes/1/leave", "\r\nallow: POST\r\n"),
     ("GET /nodes/1/crash", "\r\nallow: POST\r\n"),
+    ("GET /nodes/1/rescue", "\r\nallow: POST\r\n"),
     ("GET /stop", "\r\nallow: POST\r\n"),
 ];
 

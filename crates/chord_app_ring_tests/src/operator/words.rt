@@ -4,7 +4,7 @@ use crate::checks::check;
 use bytes::Bytes;
 use chord_app_operator::{
     CrashRefusal, Fault, JoinRefusal, JoinRequest, LeaveRefusal, OperatorCall, PageState, Pair,
-    PairsRequest, Refusal, Resource, Site, StoreKind, Verb, pair_lines,
+    PairsRequest, Refusal, RescueRefusal, Resource, Site, StoreKind, Verb, pair_lines,
 };
 use chord_sight::Phase;
 use http::Request;
@@ -15,6 +15,7 @@ use std::test::Fail;
 #[test]
 fn words_are_those_of_the_page(rt: HostRuntime) -> Result<(), Fail> {
     check!(&rt; Phase::Leaving.word() == "leaving");
+    check!(&rt; Phase::Rescuing.word() == "rescuing");
     check!(&rt; StoreKind::Capped.word() == "capped");
     check!(&rt; StoreKind::of_word("list") == Some(StoreKind::List));
     check!(&rt; StoreKind::of_word("List").is_none());
@@ -27,6 +28,7 @@ fn words_are_those_of_the_page(rt: HostRuntime) -> Result<(), Fail> {
     check!(&rt; JoinRefusal::NoSlot.name() == "NoSlot");
     check!(&rt; LeaveRefusal::NotStaying.name() == "NotStaying");
     check!(&rt; CrashRefusal::Unsafe.name() == "Unsafe");
+    check!(&rt; RescueRefusal::NotCrashed.name() == "NotCrashed");
     check!(&rt; Refusal::Bad(Fault::BadId).name() == "BadId");
     check!(&rt; Refusal::Crash(CrashRefusal::NoSuchNode).status().as_u16() == 404);
     Ok(())
@@ -36,6 +38,7 @@ fn words_are_those_of_the_page(rt: HostRuntime) -> Result<(), Fail> {
 fn paths_name_resources(rt: HostRuntime) -> Result<(), Fail> {
     let alloc = rt.alloc();
     check!(&rt; Resource::of_path(alloc, "/nodes/7/leave")? == Some(Resource::Leave(7)));
+    check!(&rt; Resource::of_path(alloc, "/nodes/7/rescue")? == Some(Resource::Rescue(7)));
     check!(&rt; Resource::of_path(alloc, "/nodes")? == Some(Resource::Nodes));
     check!(&rt; Resource::of_path(alloc, "/node")?.is_none());
     check!(&rt; Resource::Stop.verb() == Verb::Act);

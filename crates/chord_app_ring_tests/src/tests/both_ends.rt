@@ -7,7 +7,9 @@ use crate::checks::check;
 use crate::operator::devices::{Exchange, serve_bytes};
 use crate::operator::operators::RingValue;
 use crate::operator::sights::RING_TABLE;
-use chord_app_operator::{CrashRefusal, JoinRefusal, LeaveRefusal, PageState, PairsRequest};
+use chord_app_operator::{
+    CrashRefusal, JoinRefusal, LeaveRefusal, PageState, PairsRequest, RescueRefusal,
+};
 use chord_app_ring::{
     Page, RingCommand, RingFault, exchange_pairs, page_of, pairs_bytes, request_behind,
 };
@@ -27,6 +29,7 @@ fn unwilling(alloc: Global) -> RingValue {
     operator.joined = Err(JoinRefusal::NoSlot);
     operator.leaves = Err(LeaveRefusal::NotStaying);
     operator.crashes = Err(CrashRefusal::Unsafe);
+    operator.rescues = Err(RescueRefusal::NotCrashed);
     operator.has_memory = false;
     operator
 }
@@ -86,6 +89,12 @@ const COMMANDS: &[(RingCommand, &[u8], &str, &str)] = &[
         "refused: refused Unsafe\n",
     ),
     (
+        RingCommand::Rescue(7),
+        b"r",
+        "node 7 is being rescued\n",
+        "refused: refused NotCrashed\n",
+    ),
+    (
         RingCommand::Stop,
         b"t",
         "the server stops\n",
@@ -99,6 +108,7 @@ fn is_asked(command: &RingCommand, operator: &RingValue) -> bool {
         RingCommand::Join(request) => operator.join == Some(*request),
         RingCommand::Leave(node) => operator.left == Some(*node),
         RingCommand::Crash(request) => operator.crash == Some(*request),
+        RingCommand::Rescue(node) => operator.rescued == Some(*node),
         RingCommand::Show | RingCommand::Stop => true,
     }
 }

@@ -42,7 +42,7 @@ pub const FORCED_CRASH: CrashRequest = CrashRequest {
 };
 
 /// Each kind of command with what is sent to port 7001.
-const SENT: [(RingCommand, &str); 7] = [
+const SENT: [(RingCommand, &str); 8] = [
     (
         RingCommand::Show,
         "GET /ring HTTP/1.1\r\nhost: 127.0.0.1:7001\r\naccept: text/plain\r\n\r\n",
@@ -66,6 +66,10 @@ const SENT: [(RingCommand, &str); 7] = [
     (
         RingCommand::Crash(FORCED_CRASH),
         "POST /nodes/7/crash HTTP/1.1\r\nhost: 127.0.0.1:7001\r\naccept: text/plain\r\ncontent-length: 14\r\n\r\n{\"force\":true}",
+    ),
+    (
+        RingCommand::Rescue(12),
+        "POST /nodes/12/rescue HTTP/1.1\r\nhost: 127.0.0.1:7001\r\naccept: text/plain\r\ncontent-length: 0\r\n\r\n",
     ),
     (
         RingCommand::Stop,

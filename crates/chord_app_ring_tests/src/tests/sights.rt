@@ -1,4 +1,5 @@
-//! A ring of two nodes, one of which gives the other a part of what it holds, and one that crashed.
+//! A ring of two nodes, one of which gives the other a part of what it holds, one that crashed, and
+//! one that is rescued.
 
 use crate::samples::{empty_node, empty_ring, filled, peopled};
 use chord_app_operator::{RingSight, StoreKind, StoredNode};
@@ -85,7 +86,8 @@ fn put_nodes(alloc: Global, nodes: &mut Vec<StoredNode>) -> Result<(), AllocErro
     nodes.push(giving(alloc)?)?;
     nodes.push(leaving(alloc)?)?;
     nodes.push(crashed(alloc))?;
-    Ok(nodes.push(empty_node(alloc, 3, 0, Phase::Gone))?)
+    nodes.push(empty_node(alloc, 3, 0, Phase::Gone))?;
+    Ok(nodes.push(empty_node(alloc, 4, 3 * QUARTER, Phase::Rescuing))?)
 }
 
 /// The ring.

@@ -9,12 +9,13 @@ use std::test::Fail;
 
 /// The table of the ring of these tests.
 const TABLE: &str = concat!(
-    "up 12 s, 4 of 16 slots used, 4 successors, 5 connections, 3 of 64 callers open\n",
-    "node  identifier                        phase      share      pairs  segments  outbox\n",
-    "   0  40000000000000000000000000000000  staying   75.00%       1234         1  64 to 1, 64 to 2\n",
-    "   1  80000000000000000000000000000000  leaving   24.99%          0         2  -\n",
-    "   2  ffffffffffffffffffffffffffffffff  crashed    0.00%          0         0  -\n",
-    "   3  00000000000000000000000000000000  gone       0.00%          0         0  -\n",
+    "up 12 s, 5 of 16 slots used, 4 successors, 5 connections, 3 of 64 callers open\n",
+    "node  identifier                        phase       share      pairs  segments  outbox\n",
+    "   0  40000000000000000000000000000000  staying    75.00%       1234         1  64 to 1, 64 to 2\n",
+    "   1  80000000000000000000000000000000  leaving    24.99%          0         2  -\n",
+    "   2  ffffffffffffffffffffffffffffffff  crashed     0.00%          0         0  -\n",
+    "   3  00000000000000000000000000000000  gone        0.00%          0         0  -\n",
+    "   4  c0000000000000000000000000000000  rescuing    0.00%          0         0  -\n",
 );
 
 #[test]
@@ -33,7 +34,7 @@ fn the_table_of_a_ring(rt: HostRuntime) -> Result<(), Fail> {
 const FORCED: &str = concat!(
     "up 12 s, 0 of 16 slots used, 4 successors, 5 connections, 3 of 64 callers open\n",
     "a crash was forced that the ring did not allow: start a new ring\n",
-    "node  identifier                        phase      share      pairs  segments  outbox\n",
+    "node  identifier                        phase       share      pairs  segments  outbox\n",
 );
 
 #[test]
