@@ -9,11 +9,11 @@ use crate::serving::sessions::Sessions;
 use crate::serving::tally::Tally;
 use chord_app_operator::{
     CallerCounts, CrashRefusal, CrashRequest, Holder, JoinRefusal, JoinRequest, LeaveRefusal,
-    Operator, PairsPage, PairsRequest, RingSight, StoredNode,
+    Operator, PairsPage, PairsRequest, RescueRefusal, RingSight, StoredNode,
 };
 use chord_app_sockets::{Clients, Host, Until};
 use chord_ident::Id;
-use chord_live_ring::{CrashFault, Ring};
+use chord_live_ring::{CrashFault, RescueFault, Ring};
 use chord_live_types::LeaveFault;
 use chord_model::Phase;
 use chord_store::EntryStore;
@@ -139,6 +139,16 @@ impl<'t, 's, 'r, J: Naming, S: EntryStore, R: Host> Operator for RingOperator<'t
 
     fn crash(&mut self, request: CrashRequest) -> Result<(), CrashRefusal> {
         self.crash_node(request)
+    }
+
+    fn rescue(&mut self, node: u64) -> Result<(), RescueRefusal> {
+        match self.ring.rescue(self.rt, node) {
+            Ok(()) => Ok(()),
+            Err(RescueFault::NoSuchNode) => Err(RescueRefusal::NoSuchNode),
+            Err(RescueFault::NotCrashed) => Err(RescueRefusal::NotCrashed),
+            Err(RescueFault::NoMember) => Err(RescueRefusal::NoMember),
+            Err(RescueFault::Stopped) => Err(RescueRefusal::Stopped),
+        }
     }
 
     /// Asks one node after another, each under its lock. A node that holds the identifier counts

@@ -105,7 +105,7 @@ fn lost_segment(sight: &NodeSight, first: Id) -> Option<Span>
 {
     match sight.phase {
         Phase::Crashed => segment_with(&sight.segments, first),
-        Phase::Staying | Phase::Leaving | Phase::Gone => None,
+        Phase::Staying | Phase::Leaving | Phase::Gone | Phase::Rescuing => None,
     }
 }
 

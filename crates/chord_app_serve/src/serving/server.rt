@@ -339,11 +339,15 @@ impl<
         Ok(())
     }
 
-    /// Waits for the connections that are open, or ends them if the server was stopped.
+    /// Waits for the connections that are open, or ends them if the server was stopped. Then the
+    /// ring is stopped first, so that no connection waits for an answer that does not come.
     fn end_clients(&self) {
         match self.until {
             Until::Connections(_) => self.clients.wait_for_all(self.service.rt),
-            Until::Stopped { .. } => self.clients.end_all(self.service.rt),
+            Until::Stopped { .. } => {
+                self.service.ring.stop();
+                self.clients.end_all(self.service.rt);
+            }
         }
     }
 

@@ -1,7 +1,7 @@
 //! Nodes that an operator makes join, leave and crash while clients ask.
 
 use crate::checks::check;
-use crate::tests::operators::{Call, NO_SLOT, PLAIN, unanswered};
+use crate::tests::operators::{Call, NO_SLOT, PLAIN, STOPS, unanswered};
 use chord_app_serve_testkit::{
     Act, Addresses, Answer, Ask, Handle, Played, SMALL, Size, WAITS, do_acts, stay_beside,
 };
@@ -140,12 +140,6 @@ const CRASHES: &[Call] = &[
         ..PLAIN
     },
 ];
-
-const STOPS: &[Call] = &[Call {
-    line: "POST /stop",
-    status: "202 Accepted",
-    ..PLAIN
-}];
 
 /// What a client asks again and again. Nobody else asks for its value.
 const ROUND_OF_X: &[(Ask, Answer)] = &[

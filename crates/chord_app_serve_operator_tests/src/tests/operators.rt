@@ -41,6 +41,13 @@ pub const NO_SLOT: Call = Call {
     ..PLAIN
 };
 
+/// The server is stopped.
+pub const STOPS: &[Call] = &[Call {
+    line: "POST /stop",
+    status: "202 Accepted",
+    ..PLAIN
+}];
+
 /// The answer to a call.
 fn answer(
     alloc: Global,
@@ -512,14 +519,58 @@ const NODE_1_CRASHES: &[Call] = &[Call {
     has: "{\"node\":1}",
 }];
 
+/// A client asks for `abc` by its request 2.
+const RETRIEVE_ABC: &[u8] = b"\x00\x00\x00\x0e\x01\x02\x00\x00\x00\x00\x00\x00\x00\x02\x03abc";
+
+/// Fault 11 for request 2.
+const FAULT_11: &[u8] = b"\x00\x00\x00\x0b\x01\xff\x00\x00\x00\x00\x00\x00\x00\x02\x0b";
+
 /// A client asks for `abc` by its request 2, and is told fault 11.
-const NO_ANSWER: Act = Act::Exchange(
-    b"\x00\x00\x00\x0e\x01\x02\x00\x00\x00\x00\x00\x00\x00\x02\x03abc",
-    b"\x00\x00\x00\x0b\x01\xff\x00\x00\x00\x00\x00\x00\x00\x02\x0b",
-);
+const NO_ANSWER: Act = Act::Exchange(RETRIEVE_ABC, FAULT_11);
+
+/// Node 1 is rescued: node 0 holds `abc` then, and node 1 is gone.
+const NODE_1_IS_RESCUED: &[Call] = &[
+    Call {
+        line: "POST /nodes/0/rescue",
+        status: "409 Conflict",
+        has: "{\"refused\":\"NotCrashed\"}",
+        ..PLAIN
+    },
+    Call {
+        line: "POST /nodes/2/rescue",
+        status: "404 Not Found",
+        has: "{\"refused\":\"NoSuchNode\"}",
+        ..PLAIN
+    },
+    Call {
+        line: "POST /nodes/1/rescue",
+        status: "202 Accepted",
+        has: "{\"node\":1}",
+        ..PLAIN
+    },
+    Call {
+        line: "GET /holder/abc",
+        status: "200 OK",
+        has: "\"node\":0}",
+        ..PLAIN
+    },
+    Call {
+        line: "GET /metrics",
+        status: "200 OK",
+        has: "chord_nodes{phase=\"gone\"} 1\n",
+        ..PLAIN
+    },
+    Call {
+        line: "POST /nodes/1/rescue",
+        status: "409 Conflict",
+        has: "{\"refused\":\"NotCrashed\"}",
+        ..PLAIN
+    },
+];
 
 /// The node that holds `abc` crashes. Each request for that key gets fault 11, and another client
-/// is answered, which asks for the key of the other node.
+/// is answered, which asks for the key of the other node. Behind a rescue the same request is
+/// answered with what was inserted before.
 const BEHIND_A_CRASH: &[Step] = &[
     Step::Operator(HOLDERS),
     Step::Clients(&[
@@ -533,9 +584,41 @@ const BEHIND_A_CRASH: &[Step] = &[
         (1, Act::Connect),
         (1, RETRIEVE_B),
         (1, Act::Leave),
+    ]),
+    Step::Operator(NODE_1_IS_RESCUED),
+    Step::Clients(&[
+        (0, Act::Call(2, Ask::Retrieve, Answer::Values(&[b"x"]))),
         (0, Act::Leave),
     ]),
 ];
+
+/// The server is stopped while a client waits for an answer to its request 2. It is told fault 11.
+const STOPPED_WITH_A_REQUEST: &[Step] = &[
+    Step::Operator(HOLDERS),
+    Step::Clients(&[
+        (0, Act::Connect),
+        (0, Act::Call(1, Ask::Insert(b"x"), Answer::Added)),
+    ]),
+    Step::Operator(NODE_1_CRASHES),
+    Step::Clients(&[(0, Act::Say(RETRIEVE_ABC))]),
+    Step::Operator(STOPS),
+    Step::Clients(&[(0, Act::HearBytes(FAULT_11)), (0, Act::End)]),
+];
+
+/// A request is sent 1,000 times, for a tenth of a second each, but a stop ends that.
+#[test]
+fn a_stop_ends_a_stuck_request(rt: HostRuntime) -> Result<(), Fail> {
+    let size = Size {
+        tries: 1_000,
+        ..TWO_CALLERS
+    };
+    let server = (size, RandomState::new(&rt)?);
+    let pipe = io::pipe(&rt)?;
+    let lines = "connection 0 ended\n";
+    let found = operated(&rt, rt.alloc(), server, STOPPED_WITH_A_REQUEST, pipe, lines);
+    assert!(rt; found == Some(GOOD), "{found:?}");
+    Ok(())
+}
 
 /// The server sends a request once, and waits a tenth of a second for the answer.
 #[test]
