@@ -3,13 +3,15 @@
 
     bench/run operate [SECONDS [SEED]]
 
-It starts `chord serve --stay --operator` over 8 nodes. 16 clients ask over the wire, each at most
-once at a time, while an operator makes nodes join, leave and crash at random. Then, for each key,
-it searches for an order of the requests that one set allows and that keeps to the times at which
-they were written and their replies read (the search of Wing and Gong). A request without a reply
-may stand anywhere behind its writing, or nowhere; it is a fault unless its key's holder crashed.
-With --plant it changes one reply before the search, which must then fail. It ends with a status
-other than 0 where something is wrong.
+It starts `chord serve --stay --operator` over 8 nodes. 16 clients ask over the wire, half of them
+in Redis's protocol, each at most once at a time, while an operator makes nodes join, leave and
+crash at random, and rescues those that crashed. At the end all are rescued, and each key is read
+once more. Then, for each key, it searches for an order of the requests that one set allows and that
+keeps to the times at which they were written and their replies read (the search of Wing and Gong).
+A request without a reply may stand anywhere behind its writing, or nowhere; its client goes on over
+the same connection. With --plant it changes one reply before the search, which must then fail. It
+ends with a status other than 0 where something is wrong: a key without a history, a rescued node
+that is not gone, a key that is not served at the end, a client that was turned away.
 """
 import json
 import os
@@ -27,13 +29,13 @@ import urllib.request
 CLIENTS = 16
 KEYS = 256
 VALUES = 6
-MOST_LIVE, LEAST_LIVE, MOST_CRASHES = 24, 5, 4
+MOST_LIVE, LEAST_LIVE, MOST_CRASHED = 24, 5, 3
 INSERT, RETRIEVE, REMOVE = 1, 2, 3
 PROGRAM = "crates/chord_app/out/chord_app"
 
 
 class NoReply(Exception):
-    """Fault 11, or the end of the connection: the request may have been done, or may be later."""
+    """Fault 11 or TRYAGAIN: the request may have been done, or may be before the next one."""
 
 
 def exactly(stream, count):
@@ -42,7 +44,7 @@ def exactly(stream, count):
     while len(got) < count:
         piece = stream.recv(count - len(got))
         if not piece:
-            raise NoReply("the connection ended")
+            raise AssertionError("the connection ended")
         got += piece
     return got
 
@@ -85,6 +87,33 @@ def reply_in(operation, rest):
     return frozenset(values)
 
 
+class RedisConnection:
+    """A client in Redis's protocol."""
+
+    WORDS = {INSERT: b"SADD", REMOVE: b"SREM", RETRIEVE: b"SMEMBERS"}
+
+    def __init__(self, port):
+        self.stream = socket.create_connection(("127.0.0.1", port), timeout=60)
+        self.lines = self.stream.makefile("rb")
+
+    def ask(self, operation, key, value):
+        """Asks a request once, and gives its reply."""
+        words = [self.WORDS[operation], key] + ([] if operation == RETRIEVE else [value])
+        parts = [b"$%d\r\n%s\r\n" % (len(word), word) for word in words]
+        self.stream.sendall(b"*%d\r\n" % len(words) + b"".join(parts))
+        head = self.lines.readline().rstrip()
+        if head.startswith(b":"):
+            return int(head[1:])
+        if head.startswith(b"*"):
+            return frozenset(self.bulk() for _ in range(int(head[1:])))
+        if head.startswith(b"-TRYAGAIN"):
+            raise NoReply(head)
+        raise AssertionError(f"answer {head}")
+
+    def bulk(self):
+        return self.lines.read(int(self.lines.readline()[1:]) + 2)[:-2]
+
+
 class Request:
     """A request, when it was written, its reply, and when that was read (never, if None)."""
 
@@ -104,40 +133,42 @@ class Request:
 class Client(threading.Thread):
     """Asks for random keys until it is told to end."""
 
-    def __init__(self, port, seed, over):
+    def __init__(self, kind, port, seed, over):
         super().__init__()
-        self.port, self.draw, self.over = port, random.Random(seed), over
-        self.requests, self.lost, self.fault = [], set(), None
+        self.kind, self.port, self.draw, self.over = kind, port, random.Random(seed), over
+        self.requests, self.fault = [], None
 
     def run(self):
         try:
-            connection = Connection(self.port)
+            connection = self.kind(self.port)
             while not self.over.is_set():
-                connection = self.ask(connection)
+                key = b"key:%d" % self.draw.randrange(KEYS)
+                value = b"value:%d" % self.draw.randrange(VALUES)
+                operation = self.draw.choice((INSERT, INSERT, RETRIEVE, RETRIEVE, RETRIEVE, REMOVE))
+                self.ask(connection, operation, key, value)
         except Exception as fault:
             self.fault = repr(fault)
 
-    def ask(self, connection):
-        """Asks one request. Behind one without a reply a new connection takes over."""
-        key = b"key:%d" % self.draw.randrange(KEYS)
-        if key in self.lost:
-            return connection
-        value = b"value:%d" % self.draw.randrange(VALUES)
-        operation = self.draw.choice((INSERT, INSERT, RETRIEVE, RETRIEVE, RETRIEVE, REMOVE))
+    def ask(self, connection, operation, key, value):
+        """Asks one request, which may have no reply."""
         request = Request(operation, key, value)
         self.requests.append(request)
         try:
             request.reply = connection.ask(operation, key, value)
             request.read = time.monotonic()
-            return connection
         except NoReply:
-            self.lost.add(key)
-            connection.stream.close()
-            return Connection(self.port)
+            pass
+
+    def read_all(self):
+        """Reads each key once more; each has to be served."""
+        connection = self.kind(self.port)
+        for number in range(KEYS):
+            self.ask(connection, RETRIEVE, b"key:%d" % number, b"")
+        return [r.key for r in self.requests[-KEYS:] if r.read is None]
 
 
 class Operator:
-    """Makes nodes join, leave and crash."""
+    """Makes nodes join, leave and crash, and rescues them."""
 
     def __init__(self, port, seed):
         self.port, self.draw = port, random.Random(seed)
@@ -168,22 +199,32 @@ class Operator:
         """Does one thing, as the ring is now."""
         nodes = self.ring()["nodes"]
         live = [n["node"] for n in nodes if n["phase"] == "staying"]
-        crashed = sum(n["phase"] == "crashed" for n in nodes)
+        crashed = [n["node"] for n in nodes if n["phase"] == "crashed"]
         what = self.draw.random()
-        if len(live) <= LEAST_LIVE or (len(live) < MOST_LIVE and what < 0.5):
+        if len(live) <= LEAST_LIVE or (len(live) < MOST_LIVE and what < 0.4):
             self.count("join", *self.call("POST", "/nodes", {}))
-        elif what < 0.97 or crashed >= MOST_CRASHES:
+        elif what < 0.8:
             self.count("leave", *self.call("POST", f"/nodes/{self.draw.choice(live)}/leave"))
+        elif crashed and (what < 0.9 or len(crashed) >= MOST_CRASHED):
+            self.rescue(self.draw.choice(crashed))
         else:
             self.count("crash", *self.call("POST", f"/nodes/{self.draw.choice(live)}/crash", {}))
 
-    def has_crashed_with(self, key):
-        """Whether a node that crashed has the key."""
-        _, holder = self.call("GET", "/holder/" + urllib.request.quote(key))
-        crashed = {n["node"] for n in self.ring()["nodes"] if n["phase"] == "crashed"}
-        return holder is not None and bool(
-            crashed & {holder.get("node"), holder.get("from"), holder.get("to")}
-        )
+    def rescue(self, node):
+        self.count("rescue", *self.call("POST", f"/nodes/{node}/rescue"))
+
+    def rescue_all(self, seconds):
+        """Rescues each node that crashed, and gives those that are not gone within this time."""
+        end = time.monotonic() + seconds
+        while True:
+            nodes = self.ring()["nodes"]
+            for node in nodes:
+                if node["phase"] == "crashed":
+                    self.rescue(node["node"])
+            left = [n["node"] for n in nodes if n["phase"] in ("crashed", "rescuing", "leaving")]
+            if not left or time.monotonic() > end:
+                return left
+            time.sleep(0.1)
 
 
 def has_history(requests):
@@ -228,11 +269,11 @@ def start(room):
         it.write("slots = 16\ncallers = 64\nsuccessors = 4\ntries = 5\nwait = 200\n")
         for place in range(8):
             it.write(f'[[node]]\nid = "{place * 2:x}{"0" * 31}"\nstore = "tree"\n')
-    words = "serve --port 0 --operator 0 --stay --slots 4096 --callers 4096 --plan".split()
+    words = "serve --port 0 --redis 0 --operator 0 --stay --slots 4096 --callers 64 --plan".split()
     server = subprocess.Popen(
         [PROGRAM, *words, plan], stdin=subprocess.PIPE, stdout=subprocess.PIPE, text=True
     )
-    lines = [server.stdout.readline() for _ in range(2)]
+    lines = [server.stdout.readline() for _ in range(3)]
     threading.Thread(target=server.stdout.read, daemon=True).start()
     return server, *(int(line.rsplit(":", 1)[1]) for line in lines)
 
@@ -260,16 +301,28 @@ def main():
     seconds = numbers[0] if numbers else 30
     seed = numbers[1] if len(numbers) > 1 else 1
     with tempfile.TemporaryDirectory() as room:
-        server, port, operator_port = start(room)
+        server, port, redis_port, operator_port = start(room)
         try:
-            return operate(server, port, operator_port, seconds, seed, "--plant" in sys.argv)
+            ports = ((Connection, port), (RedisConnection, redis_port))
+            return operate(server, ports, operator_port, seconds, seed, "--plant" in sys.argv)
         finally:
             server.kill()
 
 
-def operate(server, port, operator_port, seconds, seed, plants):
+def waits(requests):
+    """How long the requests with a reply took, in milliseconds: four of them by rank, and how many
+    took more than 100."""
+    took = sorted(1000 * (r.read - r.written) for r in requests if r.read is not None)
+    ranks = [(share, took[int((len(took) - 1) * share)]) for share in (0.5, 0.99, 0.999, 0.9999)]
+    told = ", ".join(f"p{100 * share:g} {wait:.2f}" for share, wait in ranks)
+    return f"{told}, longest {took[-1]:.1f} ms; {sum(t > 100 for t in took)} above 100 ms"
+
+
+def operate(server, ports, operator_port, seconds, seed, plants):
     over, operator = threading.Event(), Operator(operator_port, seed)
-    clients = [Client(port, (seed << 8) + number, over) for number in range(CLIENTS)]
+    clients = [
+        Client(*ports[number % 2], (seed << 8) + number, over) for number in range(CLIENTS)
+    ]
     for client in clients:
         client.start()
     end = time.monotonic() + seconds
@@ -280,9 +333,13 @@ def operate(server, port, operator_port, seconds, seed, plants):
     for client in clients:
         client.join()
     faults = [client.fault for client in clients if client.fault]
+    faults += [f"node {node} is not gone" for node in operator.rescue_all(30)]
+    last = Client(*ports[0], seed, over)
+    faults += [f"{key} is not served" for key in last.read_all()]
     requests = [request for client in clients for request in client.requests]
-    missing = {request.key for request in requests if request.read is None}
-    faults += [f"{key} has no reply" for key in missing if not operator.has_crashed_with(key)]
+    missing = sum(request.read is None for request in requests)
+    told = waits(requests)
+    requests += last.requests
     if plants:
         told = [r for r in requests if r.read is not None and r.operation == RETRIEVE and r.reply]
         told[len(told) // 2].reply = frozenset()
@@ -290,12 +347,15 @@ def operate(server, port, operator_port, seconds, seed, plants):
     for request in requests:
         by_key.setdefault(request.key, []).append(request)
     faults += [f"{key} has no history" for key in by_key if not has_history(by_key[key])]
-    nodes = operator.ring()["nodes"]
-    phases = [node["phase"] for node in nodes]
+    ring = operator.ring()
+    phases = [node["phase"] for node in ring["nodes"]]
+    if ring["ends"]["callersspent"]:
+        faults.append("a client was turned away")
     print(f"seed {seed}: {len(requests)} requests of {CLIENTS} clients over {len(by_key)} keys")
     print("operator:", ", ".join(f"{n} {what}" for what, n in sorted(operator.counts.items())))
     print("nodes:", ", ".join(f"{phases.count(p)} {p}" for p in sorted(set(phases))))
-    print(f"keys without a reply, whose holder crashed: {len(missing)}")
+    print(f"requests without a reply: {missing}; callers open: {ring['callers']['open']}")
+    print(f"requests with one: {told}")
     time.sleep(4)
     print(f"memory: {resident(server):.0f} MiB; idle: {100 * load_of(server, 5):.2f}% of a processor")
     print("one history for each key" if not faults else "WRONG: " + "; ".join(faults[:5]))
