@@ -338,7 +338,7 @@ def operate(server, ports, operator_port, seconds, seed, plants):
     faults += [f"{key} is not served" for key in last.read_all()]
     requests = [request for client in clients for request in client.requests]
     missing = sum(request.read is None for request in requests)
-    told = waits(requests)
+    times = waits(requests)
     requests += last.requests
     if plants:
         told = [r for r in requests if r.read is not None and r.operation == RETRIEVE and r.reply]
@@ -355,7 +355,7 @@ def operate(server, ports, operator_port, seconds, seed, plants):
     print("operator:", ", ".join(f"{n} {what}" for what, n in sorted(operator.counts.items())))
     print("nodes:", ", ".join(f"{phases.count(p)} {p}" for p in sorted(set(phases))))
     print(f"requests without a reply: {missing}; callers open: {ring['callers']['open']}")
-    print(f"requests with one: {told}")
+    print(f"requests with one: {times}")
     time.sleep(4)
     print(f"memory: {resident(server):.0f} MiB; idle: {100 * load_of(server, 5):.2f}% of a processor")
     print("one history for each key" if not faults else "WRONG: " + "; ".join(faults[:5]))

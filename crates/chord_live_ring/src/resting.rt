@@ -27,8 +27,8 @@ impl<J: Naming, S: EntryStore> Ring<J, S> {
     }
 
     /// Waits until the given time is over, the ring is stopped, or a node comes, begins to leave,
-    /// retires, crashes or is rescued. Says whether a node did so since the last rest. One thread rests at a
-    /// time.
+    /// retires, crashes or is rescued. Says whether a node did so since the last rest. One thread
+    /// rests at a time.
     pub fn rest<R: Wait + Clock>(&self, rt: &R, milliseconds: u64) -> bool {
         let mut left = milliseconds;
         for _ in 0..u64::MAX {
