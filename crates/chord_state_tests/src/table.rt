@@ -20,6 +20,7 @@ use std::test::Fail;
 
 mod assemblies;
 mod clients;
+mod standings;
 mod witnesses;
 
 #[test]
