@@ -9,10 +9,12 @@ crash at random, and rescues those that crashed. At the end all are rescued, and
 once more. Then, for each key, it searches for an order of the requests that one set allows and that
 keeps to the times at which they were written and their replies read (the search of Wing and Gong).
 A request without a reply may stand anywhere behind its writing, or nowhere; its client goes on over
-the same connection. With --plant it changes one reply before the search, which must then fail. It
-ends with a status other than 0 where something is wrong: a key without a history, a rescued node
-that is not gone, a key that is not served at the end, a client that was turned away.
+the same connection. With --calm no node crashes, so each request is for the key of a node that
+answers. With --plant it changes one reply before the search, which must then fail. It ends with a
+status other than 0 where something is wrong: a key without a history, a rescued node that is not
+gone, a key that is not served at the end, a client that was turned away.
 """
+import gc
 import json
 import os
 import random
@@ -170,8 +172,8 @@ class Client(threading.Thread):
 class Operator:
     """Makes nodes join, leave and crash, and rescues them."""
 
-    def __init__(self, port, seed):
-        self.port, self.draw = port, random.Random(seed)
+    def __init__(self, port, seed, is_calm):
+        self.port, self.draw, self.is_calm = port, random.Random(seed), is_calm
         self.counts = {}
 
     def call(self, method, path, body=None):
@@ -203,7 +205,7 @@ class Operator:
         what = self.draw.random()
         if len(live) <= LEAST_LIVE or (len(live) < MOST_LIVE and what < 0.4):
             self.count("join", *self.call("POST", "/nodes", {}))
-        elif what < 0.8:
+        elif what < 0.8 or self.is_calm:
             self.count("leave", *self.call("POST", f"/nodes/{self.draw.choice(live)}/leave"))
         elif crashed and (what < 0.9 or len(crashed) >= MOST_CRASHED):
             self.rescue(self.draw.choice(crashed))
@@ -297,14 +299,17 @@ def load_of(server, seconds):
 
 
 def main():
-    numbers = [int(word) for word in sys.argv[1:] if word != "--plant"]
+    # A collection of all requests so far would stop each client for a tenth of a second or more.
+    gc.disable()
+    numbers = [int(word) for word in sys.argv[1:] if not word.startswith("--")]
     seconds = numbers[0] if numbers else 30
     seed = numbers[1] if len(numbers) > 1 else 1
     with tempfile.TemporaryDirectory() as room:
         server, port, redis_port, operator_port = start(room)
         try:
             ports = ((Connection, port), (RedisConnection, redis_port))
-            return operate(server, ports, operator_port, seconds, seed, "--plant" in sys.argv)
+            operator = Operator(operator_port, seed, "--calm" in sys.argv)
+            return operate(server, ports, operator, seconds, seed, "--plant" in sys.argv)
         finally:
             server.kill()
 
@@ -318,8 +323,8 @@ def waits(requests):
     return f"{told}, longest {took[-1]:.1f} ms; {sum(t > 100 for t in took)} above 100 ms"
 
 
-def operate(server, ports, operator_port, seconds, seed, plants):
-    over, operator = threading.Event(), Operator(operator_port, seed)
+def operate(server, ports, operator, seconds, seed, plants):
+    over = threading.Event()
     clients = [
         Client(*ports[number % 2], (seed << 8) + number, over) for number in range(CLIENTS)
     ]
