@@ -1,2 +1,3 @@
+pub mod Asking
 pub mod Buckets
 pub mod Joined

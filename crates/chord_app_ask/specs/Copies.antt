@@ -1,5 +1,7 @@
 -- A copy of pairs as its lines come: requests, and at its end their number. Source: our own.
-use Rattle.std.specs.Prelude.{◌≡◌, ◌⊎◌, ℕ, ◌+◌, ◌-◌, ◌^◌, min, List, ◌++◌, bytes_eq, codes, decimal, Bool, true, false, All, Option, Some, None, option_and_then, Result, Ok, Err}
+use Rattle.std.specs.Prelude.{◌≡◌, ◌⊎◌, ℕ, ◌+◌, ◌-◌, ◌^◌, min, List, ◌++◌, bytes_eq, codes, decimal}
+use Rattle.std.specs.Prelude.{Bool, true, false, All, Option, Some, None, option_and_then, Result}
+use Rattle.std.specs.Prelude.{Ok, Err}
 use Rattle.std.specs.Io.KnownBytes.{Appends}
 use Rattle.chord_app_text.specs.declared.finish.Finish.{Finish}
 use Rattle.chord_app_text.specs.declared.finish.Finish.TheVariants as End
@@ -22,7 +24,8 @@ abbrev pub with_request : CopyRead → CopyRead
 with_request read = record { requests = min (read.requests + 1) (2 ^ 64 - 1); is_whole = false }
 
 abbrev pub with_comment : List ℕ → CopyRead → CopyRead
-with_comment line read = record { requests = read.requests; is_whole = bytes_eq line (count_line read.requests) }
+with_comment line read =
+    record { requests = read.requests; is_whole = bytes_eq line (count_line read.requests) }
 
 -- why a request with this outcome is not done: an insert that found the set full is none that is
 abbrev pub undone_of : AskOutcome → Option Undone
@@ -47,7 +50,8 @@ restored_line requests = codes "restored " ++ decimal requests ++ codes "\n"
 
 -- a copy ends well where its last line tells the number of its requests, which is written
 abbrev pub IsRestored : CopyRead → (held held' : Option (List ℕ)) → Result Finish Finish → Type 0
-IsRestored read held held' (Ok finish) = (finish ≡ End.Done) × (read.is_whole ≡ true) × Appends held held' (restored_line read.requests)
+IsRestored read held held' (Ok finish) = (finish ≡ End.Done) × (read.is_whole ≡ true)
+    × Appends held held' (restored_line read.requests)
 IsRestored read held held' (Err finish) =
     ((finish ≡ End.Fault Cause.Cut) × (read.is_whole ≡ false))
     ⊎ ((read.is_whole ≡ true) × ((finish ≡ End.Fault Cause.Write) ⊎ (finish ≡ End.OutOfMemory)))

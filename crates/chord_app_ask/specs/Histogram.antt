@@ -1,5 +1,7 @@
 -- Which bucket a value is in, and percentiles. Source: our own.
-use Rattle.std.specs.Prelude.{◌≡◌, ◌⊎◌, ℕ, ◌+◌, ◌-◌, ◌*◌, ◌/◌, ◌%◌, ◌^◌, ◌<◌, ◌≤◌, nat_lt, nat_le, if◌then◌else◌, Bool, true, false, List, [], ◌∷◌, length, take, map, Option, Some, None}
+use Rattle.std.specs.Prelude.{◌≡◌, ◌⊎◌, ℕ, ◌+◌, ◌-◌, ◌*◌, ◌/◌, ◌%◌, ◌^◌, ◌<◌, ◌≤◌, nat_lt, nat_le}
+use Rattle.std.specs.Prelude.{if◌then◌else◌, Bool, true, false, List, [], ◌∷◌, length, take, map}
+use Rattle.std.specs.Prelude.{Option, Some, None}
 use Rattle.std.specs.List.{position, slice_get, slice_set}
 use Rattle.chord_app_ask.specs.declared.load.histogram.Bucket.{Bucket}
 use Rattle.chord_app_ask.specs.Recorded.{value_count}
@@ -21,7 +23,8 @@ pub record HasBounds (buckets : List Bucket) : Type 0 where
 -- all 976 buckets are empty, and the last one's bound is 2^64 - 1
 pub record IsNew (buckets : List Bucket) : Type 0 where
   pub count : length buckets ≡ 976
-  pub each : (place : ℕ) → place < 976 → slice_get buckets place ≡ Some (record { bound = bound place; count = 0 })
+  pub each : (place : ℕ) → place < 976 → slice_get buckets place
+      ≡ Some (record { bound = bound place; count = 0 })
 
 -- the first bucket whose bound is not below the value
 abbrev pub bucket_of : ℕ → List Bucket → Option ℕ
@@ -34,8 +37,11 @@ with_more times b = record { bound = b.bound; count = b.count + times }
 -- A value is counted this many times in its bucket. Nothing changes if there is no bucket for it,
 -- or the total would be 2^64 or more.
 abbrev pub RecordIs : Bool → ℕ → ℕ → (old new : List Bucket) → Type 0
-RecordIs true value times old new = (place : ℕ) × (b : Bucket) × (bucket_of value old ≡ Some place) × (slice_get old place ≡ Some b) × (value_count old + times < 2 ^ 64) × (new ≡ slice_set old place (with_more times b))
-RecordIs false value times old new = ((2 ^ 64 ≤ value_count old + times) ⊎ (bucket_of value old ≡ None)) × (new ≡ old)
+RecordIs true value times old new = (place : ℕ) × (b : Bucket) × (bucket_of value old ≡ Some place)
+    × (slice_get old place ≡ Some b) × (value_count old + times < 2 ^ 64)
+    × (new ≡ slice_set old place (with_more times b))
+RecordIs false value times old new =
+    ((2 ^ 64 ≤ value_count old + times) ⊎ (bucket_of value old ≡ None)) × (new ≡ old)
 
 -- how many values are this many thousandths of all, rounded up
 abbrev pub rank_of : ℕ → ℕ → ℕ
@@ -54,7 +60,8 @@ pub record IsLeast (many found : ℕ) (buckets : List Bucket) : Type 0 where
 -- recorded
 abbrev pub PercentileIs : Option ℕ → ℕ → List Bucket → Type 0
 PercentileIs None thousandths buckets = value_count buckets ≡ 0
-PercentileIs (Some found) thousandths buckets = IsLeast (rank_of thousandths (value_count buckets)) found buckets
+PercentileIs (Some found) thousandths buckets =
+    IsLeast (rank_of thousandths (value_count buckets)) found buckets
 
 -- each bucket with the count of the other histogram's bucket at its place too
 abbrev pub with_counts : List Bucket → List Bucket → List Bucket
@@ -64,4 +71,5 @@ with_counts (b ∷ buckets) (m ∷ more) = with_more m.count b ∷ with_counts b
 
 -- the values of both, or of the first alone if both together have 2^64 or more
 abbrev pub joined : List Bucket → List Bucket → List Bucket
-joined one other = if nat_lt (value_count one + value_count other) (2 ^ 64) then with_counts one other else one
+joined one other =
+    if nat_lt (value_count one + value_count other) (2 ^ 64) then with_counts one other else one

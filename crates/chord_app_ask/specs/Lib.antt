@@ -1,6 +1,9 @@
+pub mod Asked
 pub mod Copies
 pub mod Counts
 pub mod Questions
 pub mod Recorded
+pub mod Reports
+pub mod Requests
 pub mod Histogram
 pub mod Shares

@@ -1,5 +1,6 @@
 -- Requests that may change something, and how often they are sent. Source: our own.
-use Rattle.std.specs.Prelude.{◌≡◌, ◌⊎◌, ℕ, ◌+◌, ◌-◌, ◌^◌, min, Bool, true, false, not, ◌&&◌, ◌||◌, ◌==◌, nat_le, if◌then◌else◌, Option, Some, None}
+use Rattle.std.specs.Prelude.{◌≡◌, ◌⊎◌, ℕ, ◌+◌, ◌-◌, ◌^◌, min, Bool, true, false, not, ◌&&◌, ◌||◌}
+use Rattle.std.specs.Prelude.{◌==◌, nat_le, if◌then◌else◌, Option, Some, None}
 use Rattle.chord_map.specs.declared.request.Request.{Request}
 use Rattle.chord_map.specs.declared.request.Request.TheVariants.{Insert, Retrieve, Remove}
 use Rattle.chord_app_ask.specs.declared.ask.outcome.AskOutcome.{AskOutcome}
@@ -20,7 +21,8 @@ may_change (Remove key value) = true
 -- An insert or a remove with no outcome was never sent, or has its number in the session that is
 -- open now.
 abbrev pub IsSentOnce : Request → Option ℕ → ℕ → Option AskOutcome → Type 0
-IsSentOnce request number times outcome = may_change request ≡ true → outcome ≡ None → number ≡ None → times ≡ 0
+IsSentOnce request number times outcome =
+    may_change request ≡ true → outcome ≡ None → number ≡ None → times ≡ 0
 
 -- a request with no outcome that has no number in the open session
 abbrev pub IsUnsent : Option ℕ → Option AskOutcome → Type 0
@@ -28,7 +30,8 @@ IsUnsent number outcome = (outcome ≡ None) × (number ≡ None)
 
 -- The client sent the request under its next number. That is the request's number now, and it
 -- counts as sent once more.
-pub record IsCounted (request : Request) (before : ℕ) (old : ClientState) (number : Option ℕ) (times : ℕ) (new : ClientState) : Type 0 where
+pub record IsCounted (request : Request) (before : ℕ) (old : ClientState) (number : Option ℕ)
+    (times : ℕ) (new : ClientState) : Type 0 where
   pub sent : new ≡ with_sent old request
   pub numbered : number ≡ Some new.last
   pub counted : times ≡ min (before + 1) (2 ^ 32 - 1)
@@ -44,7 +47,8 @@ is_lost request times tries = nat_le tries times || (not (times == 0) && may_cha
 
 -- the outcome once the session ended
 abbrev pub outcome_after_loss : Request → ℕ → ℕ → Option AskOutcome → Option AskOutcome
-outcome_after_loss request times tries None = if is_lost request times tries then Some Lost else None
+outcome_after_loss request times tries None =
+    if is_lost request times tries then Some Lost else None
 outcome_after_loss request times tries (Some outcome) = Some outcome
 
 -- how a request ended with this answer

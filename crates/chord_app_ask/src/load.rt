@@ -3,6 +3,7 @@
 pub mod bounds;
 pub mod cutting;
 pub mod histogram;
+pub mod progress;
 pub mod report;
 pub mod running;
 pub mod worker;

@@ -4,6 +4,7 @@
 //! ([`ReplyText`]).
 #![tactic(auto)]
 
+mod digits;
 mod finish;
 mod grammar_fault;
 mod reply_text;
@@ -11,6 +12,7 @@ mod undone;
 mod word_fault;
 mod words;
 
+pub use digits::Digits;
 pub use finish::{Fault, Finish};
 pub use grammar_fault::GrammarFault;
 pub use reply_text::{Hex, ReplyText};

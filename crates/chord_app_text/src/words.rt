@@ -2,6 +2,7 @@
 ghost use Rattle.std.specs.Prelude.{◌≡◌};
 ghost use Rattle.chord_app_text.specs.declared.words.LineFault.TheVariants.{Grammar, OutOfMemory};
 
+use crate::digits::Digits;
 use crate::grammar_fault::GrammarFault;
 use chord_ident::Id;
 use chord_map::Bytes;
@@ -48,8 +49,14 @@ pub struct Words<'a> {
 }
 
 impl<'a> Words<'a> {
+    ghost use Rattle.std.specs.Prelude.{◌≡◌, not};
+    ghost use Rattle.chord_app_text.specs.Words.{BytesAre, WordIs, end_of, is_none_of, words_left, words_of};
+
     /// The words of a line.
-    pub fn new(line: &'a str) -> Words<'a> {
+    pub fn new(line: &'a str) -> Words<'a>
+        ensures words { words_left result ≡ words_of line.now }
+        ensures read { result.read ≡ 0 }
+    {
         Words {
             rest: Some(line),
             read: 0,
@@ -57,7 +64,9 @@ impl<'a> Words<'a> {
     }
 
     /// The next word.
-    pub fn word(&mut self) -> Result<&'a str, LineFault> {
+    pub fn word(&mut self) -> Result<&'a str, LineFault>
+        ensures { WordIs self.old result self.new }
+    {
         self.read = self.read.saturating_add(1);
         let Some(rest) = self.rest else {
             return Err(GrammarFault::Missing(self.read).into());
@@ -75,7 +84,9 @@ impl<'a> Words<'a> {
     }
 
     /// Succeeds if there is no further word.
-    pub fn end(&self) -> Result<(), LineFault> {
+    pub fn end(&self) -> Result<(), LineFault>
+        ensures { result ≡ end_of self.now }
+    {
         match self.rest {
             Some(_) => Err(GrammarFault::TooMany(self.read.saturating_add(1)).into()),
             None => Ok(()),
@@ -83,7 +94,9 @@ impl<'a> Words<'a> {
     }
 
     /// Whether there is a further word.
-    pub fn has_more(&self) -> bool {
+    pub fn has_more(&self) -> bool
+        ensures { result ≡ not (is_none_of (words_left self.now)) }
+    {
         self.rest.is_some()
     }
 
@@ -111,36 +124,13 @@ impl<'a> Words<'a> {
     }
 
     /// Bytes: pairs of hexadecimal digits of either case, or `-` for none.
-    pub fn bytes(&mut self, alloc: Global) -> Result<Bytes, LineFault> {
+    pub fn bytes(&mut self, alloc: Global) -> Result<Bytes, LineFault>
+        ensures { BytesAre self.old result self.new }
+    {
         let word = self.word()?;
-        if word == "-" {
-            return Ok(Bytes::from_vec(Vec::new(alloc)));
+        match Digits::of_word(word.as_bytes()) {
+            Some(digits) => Ok(digits.bytes(alloc)?),
+            None => Err(GrammarFault::NoBytes(self.read).into()),
         }
-        let digits = word.as_bytes();
-        let wrong = GrammarFault::NoBytes(self.read);
-        if digits.is_empty() || digits.len() % 2 != 0 {
-            return Err(wrong.into());
-        }
-        let mut bytes = Vec::with_capacity(alloc, digits.len() / 2)?;
-        let mut high = None;
-        for byte in digits {
-            let Some(digit) = digit_of(*byte) else {
-                return Err(wrong.into());
-            };
-            high = match high {
-                None => Some(digit << 4),
-                Some(upper) => {
-                    bytes.push(upper | digit)?;
-                    None
-                }
-            };
-        }
-        Ok(Bytes::from_vec(bytes))
     }
-}
-
-/// The value of a hexadecimal digit.
-fn digit_of(byte: u8) -> Option<u8> {
-    let digit = char::from(byte).to_digit(16)?;
-    Some(digit as u8)
 }

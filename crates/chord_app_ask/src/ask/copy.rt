@@ -1,6 +1,7 @@
 //! A copy of pairs, as its lines come.
 ghost use Rattle.std.specs.Prelude.{◌≡◌, IfOk, IfNone, string_bytes};
-ghost use Rattle.chord_app_ask.specs.Copies.{with_request, with_comment, undone_of, restored_line, IsDone, AreDone, IsRestored};
+ghost use Rattle.chord_app_ask.specs.Copies.{with_request, with_comment, undone_of, restored_line};
+ghost use Rattle.chord_app_ask.specs.Copies.{IsDone, AreDone, IsRestored};
 
 use crate::ask::outcome::AskOutcome;
 use crate::ask::question::Question;

@@ -1,8 +1,11 @@
 //! A request and its progress.
-ghost use Rattle.std.specs.Prelude.{◌≡◌, ◌≢◌, ◌⊎◌, ◌↔◌, ◌+◌, ◌&&◌, IsTrue, None, Some, Ok, true, false, nat_lt, is_some, not, IfErr};
+ghost use Rattle.std.specs.Prelude.{◌≡◌, ◌≢◌, ◌⊎◌, ◌↔◌, ◌+◌, ◌&&◌, IsTrue, None, Some, Ok, true};
+ghost use Rattle.std.specs.Prelude.{false, nat_lt, is_some, not, IfErr};
 ghost use Rattle.std.specs.Option.{option_copied};
 ghost use Rattle.chord_map.specs.Checked.{IsRequest};
-ghost use Rattle.chord_app_ask.specs.Questions.{may_change, is_lost, may_pass, outcome_given_up, outcome_refused, outcome_of, outcome_after_loss, IsSentOnce, IsUnsent, IsCounted, MaySendNoMore};
+ghost use Rattle.chord_app_ask.specs.Questions.{may_change, is_lost, may_pass, outcome_given_up};
+ghost use Rattle.chord_app_ask.specs.Questions.{outcome_refused, outcome_of, outcome_after_loss};
+ghost use Rattle.chord_app_ask.specs.Questions.{IsSentOnce, IsUnsent, IsCounted, MaySendNoMore};
 
 use crate::ask::link::{Link, LinkState};
 use crate::ask::outcome::AskOutcome;
@@ -80,12 +83,18 @@ impl Question {
     pub fn send(&mut self, link: &mut Link) -> Result<LinkState, Finish>
         ensures sent { self.old.number ≢ None → self.new ≡ self.old }
         ensures done { self.old.outcome ≢ None → self.new ≡ self.old }
-        ensures same { (self.new.request ≡ self.old.request) × (self.new.outcome ≡ self.old.outcome) }
-        ensures counted { ((self.new ≡ self.old) × (link.new.client ≡ link.old.client)) ⊎ IsCounted self.old.request self.old.times link.old.client self.new.number self.new.times link.new.client }
-        ensures open { result ≡ Ok LinkState.Open → IsUnsent self.old.number self.old.outcome → is_some self.new.number ≡ true }
-        ensures broken { result ≡ Ok LinkState.Broken → self.new.number ≡ None → MaySendNoMore link.old.client }
+        ensures same { (self.new.request ≡ self.old.request)
+            × (self.new.outcome ≡ self.old.outcome) }
+        ensures counted { ((self.new ≡ self.old) × (link.new.client ≡ link.old.client))
+            ⊎ IsCounted self.old.request self.old.times link.old.client self.new.number
+            self.new.times link.new.client }
+        ensures open { result ≡ Ok LinkState.Open → IsUnsent self.old.number self.old.outcome
+            → is_some self.new.number ≡ true }
+        ensures broken { result ≡ Ok LinkState.Broken → self.new.number ≡ None
+            → MaySendNoMore link.old.client }
         ensures no_other { result ≢ Ok LinkState.CallersSpent }
-        ensures memory { IfErr result (λ end. (end ≡ Finish.OutOfMemory) × IsUnsent self.old.number self.old.outcome) }
+        ensures memory { IfErr result
+            (λ end. (end ≡ Finish.OutOfMemory) × IsUnsent self.old.number self.old.outcome) }
     {
         if self.outcome.is_some() || self.number.is_some() {
             return Ok(LinkState::Open);
@@ -108,10 +117,13 @@ impl Question {
     /// Takes its answer. Says whether to send it again, which is done until it was sent `tries`
     /// times.
     pub fn take(&mut self, answer: Answer, tries: u32) -> bool
-        ensures again { result ≡ (may_pass answer && (is_some self.old.number && nat_lt self.old.times tries)) }
+        ensures again { result
+            ≡ (may_pass answer && (is_some self.old.number && nat_lt self.old.times tries)) }
         ensures same { (self.new.request ≡ self.old.request) × (self.new.number ≡ self.old.number) }
-        ensures passed { result ≡ true → (self.new.times ≡ self.old.times + 1) × (self.new.outcome ≡ self.old.outcome) }
-        ensures ended { result ≡ false → (self.new.times ≡ self.old.times) × (self.new.outcome ≡ Some (outcome_of answer)) }
+        ensures passed { result ≡ true → (self.new.times ≡ self.old.times + 1)
+            × (self.new.outcome ≡ self.old.outcome) }
+        ensures ended { result ≡ false → (self.new.times ≡ self.old.times)
+            × (self.new.outcome ≡ Some (outcome_of answer)) }
     {
         let outcome = match answer {
             Answer::Reply { reply, .. } => AskOutcome::Reply(reply),
@@ -137,7 +149,8 @@ impl Question {
     /// Its session ended, maybe without an outcome. An insert or remove that was sent becomes
     /// Lost then, and so does a request with no tries left. Others go into a new session.
     pub fn lose(&mut self, tries: u32)
-        ensures outcome { self.new.outcome ≡ outcome_after_loss self.old.request self.old.times tries self.old.outcome }
+        ensures outcome { self.new.outcome
+            ≡ outcome_after_loss self.old.request self.old.times tries self.old.outcome }
         ensures number { self.new.number ≡ None }
         ensures same { (self.new.request ≡ self.old.request) × (self.new.times ≡ self.old.times) }
     {
@@ -162,7 +175,8 @@ impl Question {
     /// Gives it up, if it has no outcome.
     pub fn give_up(&mut self)
         ensures outcome { self.new.outcome ≡ outcome_given_up self.old.outcome }
-        ensures same { (self.new.request ≡ self.old.request) × (self.new.number ≡ self.old.number) × (self.new.times ≡ self.old.times) }
+        ensures same { (self.new.request ≡ self.old.request) × (self.new.number ≡ self.old.number)
+            × (self.new.times ≡ self.old.times) }
     {
         if self.is_open() {
             self.outcome = Some(AskOutcome::Lost);

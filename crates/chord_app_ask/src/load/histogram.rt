@@ -1,7 +1,9 @@
 //! How long requests took, counted in a fixed number of buckets.
-ghost use Rattle.std.specs.Prelude.{◌≡◌, ◌≤◌, ◌<◌, ◌+◌, ◌*◌, ◌/◌, ◌%◌, ◌^◌, IfOk, IfSome, None, length};
+ghost use Rattle.std.specs.Prelude.{◌≡◌, ◌≤◌, ◌<◌, ◌+◌, ◌*◌, ◌/◌, ◌%◌, ◌^◌, IfOk, IfSome, None};
+ghost use Rattle.std.specs.Prelude.{length};
 ghost use Rattle.chord_app_ask.specs.Recorded.{value_count};
-ghost use Rattle.chord_app_ask.specs.Histogram.{bound, bucket_of, joined, with_counts, IsNew, IsLeast, RecordIs, PercentileIs};
+ghost use Rattle.chord_app_ask.specs.Histogram.{bound, bucket_of, joined, with_counts, IsNew};
+ghost use Rattle.chord_app_ask.specs.Histogram.{IsLeast, RecordIs, PercentileIs};
 
 use std::alloc::{AllocError, Global};
 use std::marker::Model;

@@ -1,8 +1,9 @@
 //! The results of a load.
 
-ghost use Rattle.std.specs.Prelude.{◌≡◌, max, Some, None, IfOk};
+ghost use Rattle.std.specs.Prelude.{◌≡◌, max, None, IfOk};
 ghost use Rattle.chord_app_ask.specs.Counts.{added, sum};
 ghost use Rattle.chord_app_ask.specs.Histogram.{joined, IsNew};
+ghost use Rattle.chord_app_ask.specs.Reports.{with_doubled, with_empty, with_resumed, with_still};
 
 use crate::load::histogram::Histogram;
 use std::alloc::{AllocError, Global};
@@ -19,8 +20,10 @@ pub struct Report {
     pub faults: u64,
     /// How many retrieves were answered by an empty set.
     pub empty: u64,
-    /// How long after the load began the last reply came.
+    /// How long after the load began its last connection ended.
     pub milliseconds: u64,
+    /// For how many milliseconds at most no connection got a reply.
+    pub still: u64,
     /// How many connections went on with the session of one before, if there were sessions.
     pub resumed: Option<u64>,
     /// How many inserts found a value that nobody else inserts, if there were such values.
@@ -42,7 +45,8 @@ impl Report {
     /// A report of nothing.
     pub fn new(alloc: Global) -> Result<Report, AllocError>
         ensures times { IfOk result (λ report. IsNew report.times) }
-        ensures counts { IfOk result (λ report. (report.faults ≡ 0) × (report.empty ≡ 0) × (report.milliseconds ≡ 0)) }
+        ensures counts { IfOk result (λ report. (report.faults ≡ 0) × (report.empty ≡ 0)) }
+        ensures passed { IfOk result (λ report. (report.milliseconds ≡ 0) × (report.still ≡ 0)) }
         ensures kept { IfOk result (λ report. (report.resumed ≡ None) × (report.doubled ≡ None)) }
     {
         Ok(Report {
@@ -50,6 +54,7 @@ impl Report {
             faults: 0,
             empty: 0,
             milliseconds: 0,
+            still: 0,
             resumed: None,
             doubled: None,
         })
@@ -60,7 +65,8 @@ impl Report {
         ensures times { self.new.times ≡ joined self.old.times other.now.times }
         ensures faults { self.new.faults ≡ added self.old.faults other.now.faults }
         ensures empty { self.new.empty ≡ added self.old.empty other.now.empty }
-        ensures milliseconds { self.new.milliseconds ≡ max self.old.milliseconds other.now.milliseconds }
+        ensures passed { self.new.milliseconds ≡ max self.old.milliseconds other.now.milliseconds }
+        ensures still { self.new.still ≡ max self.old.still other.now.still }
         ensures resumed { self.new.resumed ≡ sum self.old.resumed other.now.resumed }
         ensures doubled { self.new.doubled ≡ sum self.old.doubled other.now.doubled }
     {
@@ -68,29 +74,37 @@ impl Report {
         self.faults = self.faults.saturating_add(other.faults);
         self.empty = self.empty.saturating_add(other.empty);
         self.milliseconds = self.milliseconds.max(other.milliseconds);
+        self.still = self.still.max(other.still);
         self.resumed = sum(self.resumed, other.resumed);
         self.doubled = sum(self.doubled, other.doubled);
     }
 
     /// Counts one more retrieve that was answered by an empty set.
     pub fn note_empty(&mut self)
-        ensures { self.new ≡ record { times = self.old.times; faults = self.old.faults; empty = added self.old.empty 1; milliseconds = self.old.milliseconds; resumed = self.old.resumed; doubled = self.old.doubled } }
+        ensures { self.new ≡ with_empty self.old }
     {
         self.empty = self.empty.saturating_add(1);
     }
 
     /// Counts one more connection that went on.
     pub fn note_resumed(&mut self)
-        ensures { self.new ≡ record { times = self.old.times; faults = self.old.faults; empty = self.old.empty; milliseconds = self.old.milliseconds; resumed = sum self.old.resumed (Some 1); doubled = self.old.doubled } }
+        ensures { self.new ≡ with_resumed self.old }
     {
         self.resumed = sum(self.resumed, Some(1));
     }
 
     /// Counts one more insert that acted twice.
     pub fn note_doubled(&mut self)
-        ensures { self.new ≡ record { times = self.old.times; faults = self.old.faults; empty = self.old.empty; milliseconds = self.old.milliseconds; resumed = self.old.resumed; doubled = sum self.old.doubled (Some 1) } }
+        ensures { self.new ≡ with_doubled self.old }
     {
         self.doubled = sum(self.doubled, Some(1));
+    }
+
+    /// Takes note of a time without a reply, in milliseconds.
+    pub fn note_still(&mut self, passed: u64)
+        ensures { self.new ≡ with_still passed self.old }
+    {
+        self.still = self.still.max(passed);
     }
 
     /// How many requests were answered each second.
@@ -106,8 +120,10 @@ impl fmt::Display for Report {
         let rate = self.rate();
         let faults = self.faults;
         let milliseconds = self.milliseconds;
+        let still = self.still;
         writeln!(f, "requests     {requests:>12}")?;
         writeln!(f, "milliseconds {milliseconds:>12}")?;
+        writeln!(f, "still        {still:>12}")?;
         writeln!(f, "a second     {rate:>12}")?;
         for (name, thousandths) in PERCENTILES {
             write_percentile(f, name, self.times.percentile(thousandths))?;

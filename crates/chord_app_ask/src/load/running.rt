@@ -1,6 +1,7 @@
 //! A load over all its connections.
 
 use crate::load::bounds::Load;
+use crate::load::progress::LoadProgress;
 use crate::load::report::Report;
 use crate::load::worker::work;
 use chord_app_text::{Fault, Finish};
@@ -8,7 +9,6 @@ use std::alloc::Global;
 use std::io::Write;
 use std::net::{Net, TcpListener, TcpStream};
 use std::sync::Wait;
-use std::sync::atomic::{AtomicBool, AtomicU64, Ordering};
 use std::thread;
 use std::thread::{Scope, Threads};
 use std::time::{Clock, Duration, Instant};
@@ -16,27 +16,20 @@ use std::time::{Clock, Duration, Instant};
 /// How many times a second to check whether all connections ended.
 const LOOKS: u64 = 10;
 
-/// Counts over all connections.
-#[derive(Drop)]
-struct LoadProgress {
-    answered: AtomicU64,
-    has_ended: AtomicBool,
-}
-
 /// Writes a line each second, until all connections ended or writing fails.
 fn show<R: Clock + Wait, W: Write>(rt: &R, progress: &LoadProgress, writer: &mut W) {
     let mut before = 0;
     let mut looks: u64 = 0;
     for _ in rt.forever() {
         thread::sleep(rt, Duration::from_millis(1000 / LOOKS));
-        if progress.has_ended.load(Ordering::SeqCst) {
+        if progress.has_ended() {
             return;
         }
         looks = looks.saturating_add(1);
         if looks % LOOKS != 0 {
             continue;
         }
-        let answered = progress.answered.load(Ordering::SeqCst);
+        let answered = progress.answered();
         let seconds = looks / LOOKS;
         let more = answered.saturating_sub(before);
         before = answered;
@@ -60,9 +53,8 @@ fn run_connections<
     progress: &'s LoadProgress,
 ) -> Result<Report, Finish> {
     let mut workers = Vec::new(alloc);
-    let answered = &progress.answered;
     for connection in 0..load.connections {
-        match scope.spawn(move || work(rt, alloc, load, connection, start, answered)) {
+        match scope.spawn(move || work(rt, alloc, load, connection, start, progress)) {
             Ok(worker) => workers.push(worker)?,
             Err(_) => return Err(Finish::OutOfMemory),
         }
@@ -76,6 +68,8 @@ fn run_connections<
         }
     }
     ended?;
+    let ended = whole.milliseconds;
+    whole.note_still(progress.since_reply(ended));
     Ok(whole)
 }
 
@@ -99,7 +93,7 @@ fn run_all<
             let _ = scope.spawn(move || show(rt, progress, &mut writer)).is_ok();
         }
         let report = run_connections(rt, alloc, scope, load, start, progress);
-        progress.has_ended.store(true, Ordering::SeqCst);
+        progress.end();
         report
     })
 }
@@ -121,10 +115,7 @@ pub fn run_load<
     L: Write + Send + Drop,
     W: Write,
 >(rt: &R, alloc: Global, load: Load, lines: Option<L>, writer: &mut W) -> Result<Finish, Finish> {
-    let progress = LoadProgress {
-        answered: AtomicU64::new(0),
-        has_ended: AtomicBool::new(false),
-    };
+    let progress = LoadProgress::new();
     let Ok(start) = Instant::now(rt) else {
         return Err(Finish::Fault(Fault::Clock));
     };

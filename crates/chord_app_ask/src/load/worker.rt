@@ -4,6 +4,7 @@ ghost use Rattle.chord_map.specs.Checked.{IsRequest};
 use crate::ask::link::{ClientOptions, Link, LinkState, READS};
 use crate::load::bounds::{Kind, Load, Until};
 use crate::load::cutting::{Cut, CutWriter, Cutter};
+use crate::load::progress::LoadProgress;
 use crate::load::report::Report;
 use chord_app_text::{Fault, Finish};
 use chord_map::{Bytes, Reply, Request};
@@ -12,7 +13,6 @@ use chord_wire::{Answer, FaultCode};
 use std::alloc::{AllocError, Global};
 use std::collections::VecDeque;
 use std::net::{Net, Shutdown, TcpStream};
-use std::sync::atomic::{AtomicU64, Ordering};
 use std::time::{Clock, Instant};
 
 /// A connection, with its requests in flight and its results.
@@ -63,6 +63,12 @@ fn now<R: Clock>(rt: &R) -> Result<Instant, Finish> {
         Ok(time) => Ok(time),
         Err(_) => Err(Finish::Fault(Fault::Clock)),
     }
+}
+
+/// How many milliseconds passed from one time to another.
+fn milliseconds_between(start: Instant, time: Instant) -> u64 {
+    let passed = time.duration_since(start).as_millis();
+    u64::try_from(passed).unwrap_or(u64::MAX)
 }
 
 /// A key of the load, by its number.
@@ -206,20 +212,20 @@ impl<'a, R: Net<Stream = TcpStream> + Clock> Worker<'a, R> {
     }
 
     /// Records how long the first request in flight took, and when its reply came.
-    fn keep_time(&mut self) -> Result<(), Finish> {
+    fn keep_time(&mut self, progress: &LoadProgress) -> Result<(), Finish> {
         if let Some(sent) = self.sent.pop_front() {
             let time = now(self.rt)?;
             let took = time.duration_since(sent).as_micros();
             let microseconds = u64::try_from(took).unwrap_or(u64::MAX);
             self.report.times.record(microseconds, 1);
-            let passed = time.duration_since(self.start).as_millis();
-            self.report.milliseconds = u64::try_from(passed).unwrap_or(u64::MAX);
+            let moment = milliseconds_between(self.start, time);
+            self.report.note_still(progress.note_reply(moment));
         }
         Ok(())
     }
 
     /// Receives an answer. If it is a fault, its request is sent again in place of a new one.
-    fn receive(&mut self) -> Result<Progress, Finish> {
+    fn receive(&mut self, progress: &LoadProgress) -> Result<Progress, Finish> {
         let mut reader = &self.link.stream;
         let (number, heard) = match self.link.client.receive(&mut reader, READS) {
             Ok((number, answer)) => (number, heard_of(answer)),
@@ -237,7 +243,7 @@ impl<'a, R: Net<Stream = TcpStream> + Clock> Worker<'a, R> {
         if heard == Heard::Present && self.load.has_unique_values() {
             self.report.note_doubled();
         }
-        self.keep_time()?;
+        self.keep_time(progress)?;
         Ok(Progress::GoesOn)
     }
 
@@ -255,7 +261,7 @@ impl<'a, R: Net<Stream = TcpStream> + Clock> Worker<'a, R> {
     }
 
     /// Sends new requests, and receives an answer, if one is awaited.
-    fn step(&mut self, answered: &AtomicU64) -> Result<Progress, Finish> {
+    fn step(&mut self, progress: &LoadProgress) -> Result<Progress, Finish> {
         if self.link.is_spent() {
             return Ok(Progress::Refused);
         }
@@ -265,11 +271,11 @@ impl<'a, R: Net<Stream = TcpStream> + Clock> Worker<'a, R> {
         if self.link.client.in_flight() == 0 {
             return Ok(Progress::Done);
         }
-        let progress = self.receive()?;
-        if progress == Progress::GoesOn {
-            answered.fetch_add(1, Ordering::SeqCst);
+        let stands = self.receive(progress)?;
+        if stands == Progress::GoesOn {
+            progress.note_answer();
         }
-        Ok(progress)
+        Ok(stands)
     }
 
     /// Goes on over another connection, if its session can.
@@ -283,9 +289,9 @@ impl<'a, R: Net<Stream = TcpStream> + Clock> Worker<'a, R> {
 
     /// Sends and receives until no more is due and nothing is in flight, or the connection was lost
     /// for good.
-    fn run(&mut self, answered: &AtomicU64) -> Result<(), Finish> {
+    fn run(&mut self, progress: &LoadProgress) -> Result<(), Finish> {
         for _ in 0..u64::MAX {
-            match self.step(answered)? {
+            match self.step(progress)? {
                 Progress::GoesOn => {}
                 Progress::Done => return Ok(()),
                 Progress::Lost => {
@@ -318,7 +324,7 @@ pub fn work<R: Net<Stream = TcpStream> + Clock>(
     load: Load,
     connection: u64,
     start: Instant,
-    answered: &AtomicU64,
+    progress: &LoadProgress,
 ) -> Result<Report, Finish> {
     let client_options = ClientOptions {
         port: load.port,
@@ -343,12 +349,25 @@ pub fn work<R: Net<Stream = TcpStream> + Clock>(
         report,
         cutter: load.drops.map(|drops| Cutter::new(drops, connection)),
     };
-    let ran = worker.run(answered);
-    ended(ran, worker.into_report())
+    let ran = worker.run(progress);
+    ended(rt, start, ran, worker.into_report())
 }
 
-/// The report, unless the connection ended by a fault.
-fn ended<T: Drop>(ran: Result<(), Finish>, report: T) -> Result<T, Finish> {
-    ran?;
-    Ok(report)
+/// The report of a connection that ends now, unless it ended by a fault.
+fn ended<R: Clock>(
+    rt: &R,
+    start: Instant,
+    ran: Result<(), Finish>,
+    mut report: Report,
+) -> Result<Report, Finish> {
+    match ran.and_then(|()| now(rt)) {
+        Ok(time) => {
+            report.milliseconds = milliseconds_between(start, time);
+            Ok(report)
+        }
+        Err(finish) => {
+            drop(report);
+            Err(finish)
+        }
+    }
 }

@@ -283,6 +283,17 @@ fn is_insert(read: Result<Request, WordFault>, wanted_key: &[u8], wanted: &[u8])
     is_insert
 }
 
+/// Whether what was read is this request.
+fn is_request(read: Result<Request, WordFault>, wanted: Result<Request, AllocError>) -> bool {
+    let is_wanted = match (&read, &wanted) {
+        (Ok(read), Ok(wanted)) => read == wanted,
+        _ => false,
+    };
+    drop(read);
+    drop(wanted);
+    is_wanted
+}
+
 #[test]
 fn words_of_requests(rt: HostRuntime) {
     let alloc = rt.alloc();
@@ -292,6 +303,10 @@ fn words_of_requests(rt: HostRuntime) {
     check!(&rt; is_insert(words, b"a b", b""));
     let read = read_line(alloc, b"insert a ");
     check!(&rt; is_insert(read, b"a", b""));
+    let one = read_line(alloc, b"retrieve x:C3a9");
+    check!(&rt; is_request(one, Request::retrieve(alloc, b"\xc3\xa9")));
+    let gone = read_line(alloc, b"remove a x:3A");
+    check!(&rt; is_request(gone, Request::remove(alloc, b"a", b":")));
 }
 
 /// Why words are no request.
@@ -327,6 +342,25 @@ fn words_that_are_no_request(rt: HostRuntime) {
     }
     let none = fault_of(read_words(rt.alloc(), &[]));
     check!(&rt; none == Some(WordFault::NoOperation));
+    let spaced = fault_of(read_words(rt.alloc(), &["retrieve", "x:0a 0b"]));
+    check!(&rt; spaced == Some(WordFault::KeyDigits), "no space stands between digits");
+}
+
+/// What has several faults: words are counted first, then digits are read, and then lengths.
+#[test]
+fn the_first_fault_of_words(rt: HostRuntime) {
+    for (line, fault) in [
+        (b"delete".as_slice(), WordFault::NoOperation),
+        (b"insert x:0 x:0 c", WordFault::FourthWord),
+        (b"insert x:0 x:0", WordFault::KeyDigits),
+        (b"insert x:- x:0", WordFault::ValueDigits),
+        (b"retrieve x:0 a", WordFault::ValueOfRetrieve),
+    ] {
+        assert!(rt;
+            fault_of(read_line(rt.alloc(), line)) == Some(fault),
+            "{fault}"
+        );
+    }
 }
 
 /// The fault of a key of 256 bytes, and that of a value of 4,097.

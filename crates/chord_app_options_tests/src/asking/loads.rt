@@ -112,13 +112,23 @@ fn is_shown(alloc: Global, report: Option<Report>, wanted: &str) -> Option<bool>
 fn nothing(alloc: Global) -> Option<Report> {
     let mut report = Report::new(alloc).ok()?;
     report.milliseconds = 500;
+    report.note_still(500);
     Some(report)
 }
 
 #[test]
 fn an_empty_table(rt: HostRuntime) {
-    let wanted =
-        "requests                0\nmilliseconds          500\na second                0\np50                     -\np90                     -\np99                     -\np99.9                   -\nfaults                  0";
+    let wanted = concat!(
+        "requests                0\n",
+        "milliseconds          500\n",
+        "still                 500\n",
+        "a second                0\n",
+        "p50                     -\n",
+        "p90                     -\n",
+        "p99                     -\n",
+        "p99.9                   -\n",
+        "faults                  0",
+    );
     let alloc = rt.alloc();
     check!(&rt; is_shown(alloc, nothing(alloc), wanted) == Some(true));
 }
@@ -131,6 +141,7 @@ fn report_of_thousand(alloc: Global) -> Option<Report> {
         faults: 0,
         empty: 0,
         milliseconds: 500,
+        still: 20,
         resumed: None,
         doubled: Some(0),
     })
@@ -143,6 +154,9 @@ fn report_of_one(alloc: Global) -> Option<Report> {
     report.note_empty();
     report.note_empty();
     report.milliseconds = 400;
+    report.note_still(7);
+    report.note_still(30);
+    report.note_still(9);
     report.note_resumed();
     report.note_resumed();
     report.note_doubled();
@@ -170,11 +184,24 @@ fn joined(alloc: Global) -> Option<Report> {
     }
 }
 
-/// The joined report as a table. The last reply came after 500 milliseconds.
+/// The joined report as a table. The last connection ended after 500 milliseconds, and the longest
+/// time without a reply was 30.
 #[test]
 fn tables(rt: HostRuntime) {
-    let wanted =
-        "requests             2000\nmilliseconds          500\na second             4000\np50                    71 us\np90                   799 us\np99                   991 us\np99.9                1023 us\nfaults                  3\nempty sets              2\nresumed                 2\ndoubled                 1";
+    let wanted = concat!(
+        "requests             2000\n",
+        "milliseconds          500\n",
+        "still                  30\n",
+        "a second             4000\n",
+        "p50                    71 us\n",
+        "p90                   799 us\n",
+        "p99                   991 us\n",
+        "p99.9                1023 us\n",
+        "faults                  3\n",
+        "empty sets              2\n",
+        "resumed                 2\n",
+        "doubled                 1",
+    );
     let alloc = rt.alloc();
     check!(&rt; is_shown(alloc, joined(alloc), wanted) == Some(true));
 }

@@ -3,7 +3,7 @@
 use crate::checks::check;
 use chord_app_ring::RingFault;
 use chord_app_text::{
-    Fault, Finish, GrammarFault, Hex, LineFault, ReplyText, Undone, WordFault, Words,
+    Digits, Fault, Finish, GrammarFault, Hex, LineFault, ReplyText, Undone, WordFault, Words,
 };
 use chord_ident::Id;
 use chord_map::{Bytes, Reply, Values};
@@ -304,6 +304,27 @@ fn bytes_of_digits(rt: HostRuntime) {
         };
         check!(&rt; read == is_read, line);
     }
+}
+
+/// How many bytes a word of digits writes, and whether they are these.
+fn digits_are(alloc: Global, word: &[u8], wanted: &[u8]) -> Option<(usize, bool)> {
+    let digits = Digits::of_word(word)?;
+    let count = digits.count();
+    let bytes = digits.bytes(alloc).ok()?;
+    let are_wanted = bytes.as_slice() == wanted;
+    drop(bytes);
+    Some((count, are_wanted))
+}
+
+/// The high digit of a byte stands first, and digits have either case.
+#[test]
+fn digits_write_bytes(rt: HostRuntime) {
+    let alloc = rt.alloc();
+    check!(&rt; digits_are(alloc, b"12aBCd", &[0x12, 0xab, 0xcd]) == Some((3, true)));
+    check!(&rt; digits_are(alloc, b"-", &[]) == Some((0, true)));
+    check!(&rt; digits_are(alloc, b"", &[]) == None);
+    check!(&rt; digits_are(alloc, b"123", &[]) == None);
+    check!(&rt; digits_are(alloc, b"1 ", &[]) == None);
 }
 
 /// Checks that a reply of these values is written so.

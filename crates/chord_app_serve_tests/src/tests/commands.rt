@@ -184,8 +184,8 @@ impl Counts<'_> {
             return false;
         };
         let (has_empty, lines) = match self.empty {
-            Some(empty) => (has_line(table, "empty sets", empty), 9),
-            None => (true, 8),
+            Some(empty) => (has_line(table, "empty sets", empty), 10),
+            None => (true, 9),
         };
         has_empty
             && has_line(table, "requests", self.answered)

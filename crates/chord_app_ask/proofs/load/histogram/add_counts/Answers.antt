@@ -7,8 +7,16 @@ loop-place-init c = sym (with_none _)
 
 pub overflow_add-index_mut : goal.overflow_add-index_mut
 overflow_add-index_mut c =
-    omega (arith, c.requires.fits, next_sum c.args.buckets.now.items c.args.more.now c.loop-place.buckets.items c.loop-place.place c.index_mut.result.now _ (record { bound = 0; count = 0 }) c.loop-place.invariant c.index_mut.ensures.value c.loop-place-test.true c.requires.count)
+    omega (
+      arith,
+      c.requires.fits,
+      next_sum c.args.buckets.now.items c.args.more.now c.loop-place.buckets.items
+          c.loop-place.place c.index_mut.result.now _ (record { bound = 0; count = 0 })
+          c.loop-place.invariant c.index_mut.ensures.value c.loop-place-test.true c.requires.count,
+    )
 
 pub loop-place-preserved : goal.loop-place-preserved
 loop-place-preserved c =
-    next_counts c.args.buckets.now.items c.args.more.now c.loop-place.buckets.items c.loop-place.place c.index_mut.result.now _ (record { bound = 0; count = 0 }) c.loop-place.invariant c.index_mut.ensures.value c.loop-place-test.true c.requires.count
+    next_counts c.args.buckets.now.items c.args.more.now c.loop-place.buckets.items
+    c.loop-place.place c.index_mut.result.now _ (record { bound = 0; count = 0 })
+    c.loop-place.invariant c.index_mut.ensures.value c.loop-place-test.true c.requires.count
