@@ -5,12 +5,12 @@ pub mod Keeping
 pub mod Acting
 pub mod Upkeeping
 pub mod Posting
-pub mod Doing
 pub mod Speaking
 pub mod Answering
 pub mod Pointing
 pub mod Handing
 pub mod Taking
+pub mod Deeds
 pub mod Rescuing
 pub mod RunLemmas
 pub mod Holders

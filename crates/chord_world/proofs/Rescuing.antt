@@ -1,5 +1,5 @@
 -- A crashed node is rescued: the world keeps its rules, and so does its ring.
-use Rattle.std.proofs.Common.{◌≡◌, ◌≢◌, ℕ, ◌⊎◌, inl, inr, true, false, None, Some, Result, Ok, Err, List, set, refl, sym, ◌∙◌, ap, subst, arith}
+use Rattle.std.proofs.Common.{◌≡◌, ◌≢◌, ℕ, ◌⊎◌, inl, inr, true, false, Option, None, Some, Result, Ok, Err, List, set, refl, sym, ◌∙◌, ap, subst}
 use Rattle.std.specs.Prelude.{slice_get}
 use Rattle.std.proofs.lemmas.Bool.{true≢false}
 use Rattle.std.proofs.lemmas.List.{length-set}
@@ -11,17 +11,20 @@ use Rattle.chord_model.specs.declared.phase.Phase.{Phase}
 use Rattle.chord_model.specs.declared.phase.Phase.TheVariants as phase
 use Rattle.chord_model.specs.Node.{Node, NodeStep}
 use Rattle.chord_model.specs.Node.NodeStep.{Leaves, Links_change}
-use Rattle.chord_model.specs.World.{put_node}
-use Rattle.chord_node.specs.declared.fault.NotStaying.{NotStaying}
-use Rattle.chord_node.specs.Moves.{MoveSteps, LeaveIs}
+use Rattle.chord_model.specs.World.{put_node, with_one}
+use Rattle.chord_model.specs.declared.message.Message.{Message}
+use Rattle.chord_world.specs.declared.deed.NodeDeed.TheVariants as deed
+use Rattle.chord_world.specs.declared.outcome.Outcome.{Outcome}
+use Rattle.chord_world.specs.declared.refusal.Refusal.{Refusal}
+use Rattle.chord_world.specs.Deeds.{DoesIt, DoesItAt}
+use Rattle.chord_world.specs.Taking.{no_target}
+use Rattle.chord_world.proofs.Deeds.{with_parts}
 use Rattle.chord_world.specs.declared.fate.Fate.{Fate}
 use Rattle.chord_world.specs.declared.fate.Fate.TheVariants as fate
 use Rattle.chord_world.specs.Members.{is_out, is_dead, is_gone, ids_of}
-use Rattle.chord_world.specs.State.{WorldState, IsWorld, ring_of, fate_of, is_crashed, leaving, IsRescued, KeepsRing}
-use Rattle.chord_world.specs.Handing.{DoesAt}
+use Rattle.chord_world.specs.State.{WorldState, IsWorld, ring_of, fate_of, is_crashed, leaving, IsRescued}
 use Rattle.chord_world.specs.Upkeep.{with_rescue, Rescues}
 use Rattle.chord_world.proofs.RingLemmas.{fate_here, fate_other, fate_set, out_dead, fate_within, members_rescue}
-use Rattle.chord_world.proofs.Keeping.{with_more}
 use Rattle.chord_world.proofs.Acting.{After, ring_stays, acts, put_is}
 use Rattle.chord_world.proofs.Placing.{nodes_by}
 use Rattle.chord_world.proofs.Pointing.{node_stands}
@@ -38,10 +41,14 @@ left_by node phase.Staying is stays there = absurd (stays is)
 left_by node phase.Leaving is stays there = ap (λ (p : Phase). record node { phase = p }) is
 left_by node phase.Gone is stays there = absurd (true≢false there)
 
--- it is leaving, if it is not gone
-left_is : (node after : Node) (result : Result (Unit {0}) NotStaying) → is_gone node.phase ≡ false → LeaveIs node result after → after ≡ leaving node
-left_is node after (Ok done) there h = h.1
-left_is node after (Err fault) there h = h.1 ∙ left_by node node.phase refl h.0 there
+-- it is leaving, if it is not gone, and sends nothing
+left_is : (node after : Node) (sent sent' : List Message) (targets targets' : List (Option ℕ)) (result : Result Outcome Refusal)
+    → is_gone node.phase ≡ false → DoesIt deed.Leave node sent targets result after sent' targets'
+    → (after ≡ leaving node) × (sent' ≡ sent) × (targets' ≡ targets)
+left_is node after sent sent' targets targets' (Ok outcome) there it =
+    (it.does.is.1, it.messages_are ∙ ap (with_one sent) it.does.quiet, it.targets_are ∙ ap (λ m. with_one targets (no_target m)) it.does.quiet)
+left_is node after sent sent' targets targets' (Err refusal) there (why, same, s, t) =
+    (same ∙ left_by node node.phase refl why.is.0 there, s, t)
 
 -- ---- the world
 
@@ -119,12 +126,18 @@ rescued_here place node view kept here out =
     }
 
 -- restated in the terms of the code
-pub rescues_at : (place : ℕ) (view old : WorldState) (nodes : List Node) (fates : List Fate) (result : Result (Unit {0}) NotStaying) → view ≡ old → IsWorld view → is_crashed place old ≡ true
-    → (does : DoesAt LeaveIs MoveSteps place view.world.nodes result nodes) → fates ≡ set view.fates place fate.Rescued → AfterRescue place old (with_more nodes fates view)
-rescues_at place view old nodes fates result same kept crashed does is =
-    let node = does.node in
+pub rescues_at : (place : ℕ) (view old : WorldState) (nodes : List Node) (sent : List Message) (targets : List (Option ℕ))
+    (fates : List Fate) (result : Result Outcome Refusal) → view ≡ old → IsWorld view → is_crashed place old ≡ true
+    → DoesItAt deed.Leave place view.world.nodes view.world.sent view.targets result nodes sent targets
+    → fates ≡ set view.fates place fate.Rescued
+    → AfterRescue place old (record (with_parts nodes sent targets view) { fates = fates })
+rescues_at place view old nodes sent targets fates result same kept crashed it is =
+    let node = it.node in
     let out : is_crashed place view ≡ true = ap (is_crashed place) same ∙ crashed in
-    let left = left_is node does.after result (kept.crashed place node out does.here) does.is in
-    let put : nodes ≡ put_node (leaving node) view.world.nodes = put_is place node (leaving node) nodes view kept does.here refl (does.new_is ∙ ap (set view.world.nodes place) left) in
-    subst (λ w. AfterRescue place w (with_more nodes fates view)) same
-    (subst (AfterRescue place view) (λ i. with_more (sym put i) (sym is i) view) (rescued_here place node view kept does.here out))
+    let left = left_is node it.after view.world.sent sent view.targets targets result (kept.crashed place node out it.here) it.is in
+    let put : nodes ≡ put_node (leaving node) view.world.nodes =
+    put_is place node (leaving node) nodes view kept it.here refl (it.new_is ∙ ap (set view.world.nodes place) left.0) in
+    subst (λ w. AfterRescue place w (record (with_parts nodes sent targets view) { fates = fates })) same
+    (subst (AfterRescue place view)
+    (λ i. record (with_parts (sym put i) (sym left.1 i) (sym left.2 i) view) { fates = sym is i })
+    (rescued_here place node view kept it.here out))

@@ -17,19 +17,19 @@ use Rattle.chord_ring.proofs.OneRing.{links_from_member}
 use Rattle.chord_ring.proofs.Reached.{Kept-departs}
 use Rattle.chord_model.specs.declared.phase.Phase.TheVariants as phase
 use Rattle.chord_model.specs.Node.{Node, newborn}
-use Rattle.chord_model.specs.Node.NodeStep.{Links_change, Retires}
+use Rattle.chord_model.specs.Node.NodeStep.{Links_change}
 use Rattle.chord_model.specs.World.{WorldStep, node_at, put_node}
 use Rattle.chord_model.specs.World.WorldStep.{Joins as JoinsWorld}
 use Rattle.chord_world.specs.declared.fate.Fate.{Fate}
 use Rattle.chord_world.specs.declared.fate.Fate.TheVariants as fate
 use Rattle.chord_world.specs.Members.{is_out, is_dead, is_gone, members_of, id_of_node, ids_of, ring_with}
-use Rattle.chord_world.specs.State.{WorldState, IsWorld, ring_of, fate_of, is_crashed, leaving, KeepsRing}
+use Rattle.chord_world.specs.State.{WorldState, IsWorld, ring_of, fate_of, is_crashed, KeepsRing}
 use Rattle.chord_world.specs.declared.outcome.Outcome.{Outcome}
 use Rattle.chord_world.specs.declared.refusal.Refusal.{Refusal}
 use Rattle.chord_world.specs.Joining.{with_newborn, CanJoin, JoinIs, JoinsBehind, MayJoin, RefusesJoin}
 use Rattle.chord_world.specs.Upkeep.{Moves, FitAt, RelinksAt, with_crash}
 use Rattle.chord_world.proofs.Placing.{nodes_by, calls_of_more}
-use Rattle.chord_world.proofs.RingLemmas.{get_pushed, fate_within, fate_pushed, fate_here, fate_other, fate_set, alive_runs, out_dead, members_rescue, ids_are, ids_length, ids_pushed, members_pushed, members_crash, member_node, ring_relinked, ring_departed}
+use Rattle.chord_world.proofs.RingLemmas.{get_pushed, fate_within, fate_pushed, fate_other, fate_set, alive_runs, ids_are, ids_length, ids_pushed, members_pushed, members_crash, member_node, ring_relinked, ring_departed}
 use Rattle.chord_world.proofs.Keeping.{further, with_nodes, with_more}
 use Rattle.chord_world.proofs.Acting.{After, node_there, ring_dead, acts_at, put_is}
 
@@ -162,34 +162,15 @@ crashes place view old fates same kept created can is =
 abbrev pub retired : Node → Node
 retired node = record node { phase = phase.Gone; limit = 0; buffered = [] }
 
--- a node that is leaving, holds nothing, and can depart if it is a member
-pub record MayRetire (place : ℕ) (node : Node) (old : WorldState) : Type 0 where
-  pub here : slice_get old.world.nodes place ≡ Some node
-  pub running : is_crashed place old ≡ false
-  pub leaving : node.phase ≡ phase.Leaving
-  pub holds_none : node.held ≡ []
-  pub sends_none : node.outbox ≡ []
-  pub can : is_dead (fate_of place old) ≡ false → CanDepart (ring_of old).members place
-
-pub retires : (place : ℕ) (node : Node) (view : WorldState) (nodes : List Node) → IsWorld view → MayRetire place node view → nodes ≡ set view.world.nodes place (retired node)
-    → After view (with_nodes nodes view)
-retires place node view nodes kept may is =
-    acts_at place node (retired node) None None None None view view (with_nodes nodes view) refl kept
-    (record {
-      here = may.here;
-      running = may.running;
-      number = refl;
-      was = tt;
-      does = Retires may.leaving may.holds_none may.sends_none;
-      call = tt;
-      aimed = kept.targets;
-      ring = elim (cases_Bool (is_dead (fate_of place view))) [
-        | inl dead ↦ ring_dead place node (retired node) view kept may.here refl dead
-        | inr alive ↦ subst (Kept (ring_of view)) (sym (ring_departed place node (retired node) view.world.nodes view.fates kept.fates may.here refl refl))
-            (Kept-departs (ring_of view) place (kept.ring (node_there place view.world.nodes node may.here)) (may.can alive))
-      ];
-    })
-    (ap (λ ns. with_nodes ns view) (put_is place node (retired node) nodes view kept may.here refl is))
+-- a node that is gone, and can depart if it is a member
+pub retired_ring : (place : ℕ) (node : Node) (view : WorldState) → IsWorld view → slice_get view.world.nodes place ≡ Some node
+    → (is_dead (fate_of place view) ≡ false → CanDepart (ring_of view).members place) → Kept (ring_of view) (ring_with (set view.world.nodes place (retired node)) view.fates)
+retired_ring place node view kept here can =
+    elim (cases_Bool (is_dead (fate_of place view))) [
+      | inl dead ↦ ring_dead place node (retired node) view kept here refl dead
+      | inr alive ↦ subst (Kept (ring_of view)) (sym (ring_departed place node (retired node) view.world.nodes view.fates kept.fates here refl refl))
+          (Kept-departs (ring_of view) place (kept.ring (node_there place view.world.nodes node here)) (can alive))
+    ]
 
 -- ---- a node that joins
 

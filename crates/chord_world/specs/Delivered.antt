@@ -1,5 +1,5 @@
 -- What a World answers to the delivery of a message.
-use Rattle.std.specs.Prelude.{◌≡◌, ◌≢◌, ℕ, Bool, true, false, ◌≤◌, Option, None, Some, alloc_error, Result, Ok, Err, [], length, slice_get}
+use Rattle.std.specs.Prelude.{◌≡◌, ◌≢◌, ℕ, true, false, ◌≤◌, Option, None, Some, Result, Ok, [], length, slice_get}
 use Rattle.chord_caller.specs.declared.ask.Ask.{Ask}
 use Rattle.chord_caller.specs.declared.told.Told.{Told}
 use Rattle.chord_caller.specs.declared.heard.Heard.{Heard}
@@ -9,11 +9,10 @@ use Rattle.chord_caller.specs.Answers.{TakeIs}
 use Rattle.chord_node.specs.declared.asks.answered.Answered.{Answered}
 use Rattle.chord_node.specs.declared.asks.answered.Answered.TheVariants as answer
 use Rattle.chord_model.specs.declared.message.Message.TheVariants.{Ask as AskMessage, Told as ToldMessage, Full as FullMessage, Part as PartMessage, Got as GotMessage, Declined as DeclinedMessage, Note as NoteMessage}
-use Rattle.chord_node.specs.declared.handovers.part_answer.PartAnswer.{PartAnswer}
-use Rattle.chord_node.specs.declared.handovers.part_answer.Back.{Back}
 use Rattle.chord_handover.specs.declared.ticket.Ticket.{Ticket}
 use Rattle.chord_handover.specs.Handover.{Part}
-use Rattle.chord_node.specs.Received.{PartIs, GotIs, BackIs, sent_for}
+use Rattle.chord_world.specs.declared.deed.NodeDeed.TheVariants as deed
+use Rattle.chord_world.specs.Deeds.{DoesDeed, RefusesIt}
 use Rattle.chord_model.specs.Node.{Node}
 use Rattle.chord_node.specs.Asked.{AskIs, ask_done, sent_by}
 use Rattle.chord_model.specs.World.{node_at, put_node, caller_at, with_one}
@@ -24,8 +23,6 @@ use Rattle.chord_world.specs.declared.refusal.Refusal.TheVariants as refused
 use Rattle.chord_world.specs.declared.refusal.StepFault.TheVariants as step_fault
 use Rattle.chord_world.specs.Refusals.{DoneOrRefused}
 use Rattle.chord_world.specs.State.{WorldState, with_heard, is_crashed}
-use Rattle.chord_world.specs.Linking.{with_node}
-use Rattle.chord_world.specs.Taking.{outcome_of_given, outcome_of_freed, outcome_of_back, with_reply}
 
 -- the outcome of an answer to a call, if `count` messages were sent before
 abbrev pub outcome_of : Answered → ℕ → Outcome
@@ -69,17 +66,14 @@ pub data Delivers (message : ℕ) (old : WorldState) : Outcome → WorldState �
       → caller_at told.caller old.world.callers ≡ Some core → TakeIs told core (Ok heard) after
       → Delivers message old (outcome_heard heard told.caller) (with_heard after old)
   -- a Part is delivered to its receiver
-  Part_to_node : (part : Part) (node after : Node) (given : PartAnswer) (outcome : Outcome) → slice_get old.world.sent message ≡ Some (PartMessage part)
-      → node_at part.to old.world.nodes ≡ Some node → is_crashed part.to old ≡ false → PartIs part node (Ok given) after
-      → outcome_of_given given (length old.world.sent) ≡ Some outcome → Delivers message old outcome (with_reply after (sent_for part given) old)
+  Part_to_node : (part : Part) (outcome : Outcome) (new : WorldState) → slice_get old.world.sent message ≡ Some (PartMessage part)
+      → DoesDeed (deed.TakePart message) part.to old outcome new → Delivers message old outcome new
   -- a Got is delivered to the giver
-  Got_to_node : (got : Ticket) (node after : Node) (found : Bool) → slice_get old.world.sent message ≡ Some (GotMessage got)
-      → node_at got.from old.world.nodes ≡ Some node → is_crashed got.from old ≡ false → GotIs got node found after
-      → Delivers message old (outcome_of_freed found) (with_node after old)
+  Got_to_node : (got : Ticket) (outcome : Outcome) (new : WorldState) → slice_get old.world.sent message ≡ Some (GotMessage got)
+      → DoesDeed (deed.TakeGot got) got.from old outcome new → Delivers message old outcome new
   -- a Declined is delivered to the giver
-  Declined_to_node : (declined : Ticket) (node after : Node) (back : Back) (outcome : Outcome) → slice_get old.world.sent message ≡ Some (DeclinedMessage declined)
-      → node_at declined.from old.world.nodes ≡ Some node → is_crashed declined.from old ≡ false → BackIs declined node (Ok back) after
-      → outcome_of_back back ≡ Some outcome → Delivers message old outcome (with_node after old)
+  Declined_to_node : (declined : Ticket) (outcome : Outcome) (new : WorldState) → slice_get old.world.sent message ≡ Some (DeclinedMessage declined)
+      → DoesDeed (deed.TakeBack declined) declined.from old outcome new → Delivers message old outcome new
   -- a Full is delivered to its caller
   Full_to_caller : (caller number : ℕ) (core : Caller) → slice_get old.world.sent message ≡ Some (FullMessage caller number)
       → caller_at caller old.world.callers ≡ Some core → Delivers message old did.HeardFull old
@@ -112,11 +106,10 @@ pub data TakesMemory (message : ℕ) (old : WorldState) : Type 0 where
   Ask_takes : (ask : Ask) (to : ℕ) (node : Node) → slice_get old.world.sent message ≡ Some (AskMessage ask) → slice_get old.targets message ≡ Some (Some to)
       → node_at to old.world.nodes ≡ Some node → is_crashed to old ≡ false → TakesMemory message old
   Told_takes : (told : Told) → slice_get old.world.sent message ≡ Some (ToldMessage told) → TakesMemory message old
-  Part_takes : (part : Part) (node : Node) → slice_get old.world.sent message ≡ Some (PartMessage part) → node_at part.to old.world.nodes ≡ Some node
-      → is_crashed part.to old ≡ false → TakesMemory message old
-  Declined_takes : (declined : Ticket) (node : Node) → slice_get old.world.sent message ≡ Some (DeclinedMessage declined)
-      → node_at declined.from old.world.nodes ≡ Some node → is_crashed declined.from old ≡ false → BackIs declined node (Err alloc_error) node
-      → TakesMemory message old
+  Part_takes : (part : Part) → slice_get old.world.sent message ≡ Some (PartMessage part)
+      → RefusesIt (deed.TakePart message) part.to old refused.Memory → TakesMemory message old
+  Declined_takes : (declined : Ticket) → slice_get old.world.sent message ≡ Some (DeclinedMessage declined)
+      → RefusesIt (deed.TakeBack declined) declined.from old refused.Memory → TakesMemory message old
 
 -- why the message of this number is refused
 abbrev pub RefusesDeliver : ℕ → WorldState → Refusal → Type 0

@@ -8,6 +8,7 @@ pub mod Joining
 pub mod Upkeep
 pub mod Handing
 pub mod Taking
+pub mod Deeds
 pub mod Holding
 pub mod Delivered
 pub mod Steps

@@ -9,7 +9,6 @@ use Rattle.chord_caller.specs.declared.fault.SubmitFault.{SubmitFault}
 use Rattle.chord_caller.specs.Caller.{Caller}
 use Rattle.chord_caller.specs.Answers.{new_caller, SubmitIs}
 use Rattle.chord_model.specs.declared.message.Message.TheVariants.{Ask as AskMessage}
-use Rattle.chord_node.specs.Moves.{CutAtIs, MergeIs, LeaveIs}
 use Rattle.chord_model.specs.Node.{founder}
 use Rattle.chord_model.specs.World.{WorldStep, put_caller}
 use Rattle.chord_world.specs.declared.outcome.Outcome.{Outcome}
@@ -23,10 +22,10 @@ use Rattle.chord_world.specs.declared.step.Step.TheVariants.{Create, Join, OpenC
 use Rattle.chord_world.specs.Refusals.{refusal_of, DoneOrRefused}
 use Rattle.chord_world.specs.State.{WorldState, IsThere}
 use Rattle.chord_world.specs.Calling.{AreThere, DoesResend, RefusesResend, DoesGiveUp, RefusesGiveUp, DoesShow, RefusesShow, DoesMeet, RefusesMeet}
-use Rattle.chord_world.specs.Linking.{DoesFinger, RefusesFinger}
 use Rattle.chord_world.specs.Joining.{DoesJoin, RefusesJoin}
 use Rattle.chord_world.specs.Upkeep.{DoesUpkeep, RefusesUpkeep, DoesCrash, RefusesCrash, DoesRescue, RefusesRescue}
-use Rattle.chord_world.specs.Handing.{DoesMove, RefusesMove, DoesGive, RefusesGive, DoesSendPart, RefusesSendPart, DoesRetire, RefusesRetire, refusal_of_cut, refusal_of_merge, refusal_of_leave}
+use Rattle.chord_world.specs.declared.deed.NodeDeed.TheVariants as deed
+use Rattle.chord_world.specs.Deeds.{DoesFinger, RefusesFinger, DoesDeed, RefusesDeed, DoesGive, RefusesGive, DoesSendPart, RefusesSendPart, DoesRetire, RefusesRetire}
 use Rattle.chord_world.specs.Delivered.{Delivers, RefusesDeliver}
 
 -- a step that is done is a step of the definitions; one that is refused changes nothing
@@ -143,11 +142,11 @@ Does (GiveUp caller number) limits old outcome new = DoesGiveUp caller number ol
 Does (Deliver message) limits old outcome new = Delivers message old outcome new
 Does (Show caller) limits old outcome new = DoesShow caller old outcome new
 Does (Meet caller message) limits old outcome new = DoesMeet caller message old outcome new
-Does (Cut node place at) limits old outcome new = DoesMove (CutAtIs place at) node old outcome new
-Does (Merge node place behind) limits old outcome new = DoesMove (MergeIs place behind) node old outcome new
+Does (Cut node place at) limits old outcome new = DoesDeed (deed.Cut place at) node old outcome new
+Does (Merge node place behind) limits old outcome new = DoesDeed (deed.Merge place behind) node old outcome new
 Does (Give node place to) limits old outcome new = DoesGive node place to old outcome new
 Does (SendPart node to number part) limits old outcome new = DoesSendPart node to number part old outcome new
-Does (Leave node) limits old outcome new = DoesMove LeaveIs node old outcome new
+Does (Leave node) limits old outcome new = DoesDeed deed.Leave node old outcome new
 Does (Retire node) limits old outcome new = DoesRetire node old outcome new
 Does (Stabilise node head) limits old outcome new = DoesUpkeep (ring.Stabilise node head) node old outcome new
 Does (Candidate node peer) limits old outcome new = DoesUpkeep (ring.Candidate node peer) node old outcome new
@@ -168,11 +167,11 @@ Refuses (GiveUp caller number) limits old refusal = RefusesGiveUp caller number 
 Refuses (Deliver message) limits old refusal = RefusesDeliver message old refusal
 Refuses (Show caller) limits old refusal = RefusesShow caller old refusal
 Refuses (Meet caller message) limits old refusal = RefusesMeet caller message old refusal
-Refuses (Cut node place at) limits old refusal = RefusesMove (CutAtIs place at) refusal_of_cut node old refusal
-Refuses (Merge node place behind) limits old refusal = RefusesMove (MergeIs place behind) refusal_of_merge node old refusal
+Refuses (Cut node place at) limits old refusal = RefusesDeed (deed.Cut place at) node old refusal
+Refuses (Merge node place behind) limits old refusal = RefusesDeed (deed.Merge place behind) node old refusal
 Refuses (Give node place to) limits old refusal = RefusesGive node place to old refusal
 Refuses (SendPart node to number part) limits old refusal = RefusesSendPart node to number part old refusal
-Refuses (Leave node) limits old refusal = RefusesMove LeaveIs refusal_of_leave node old refusal
+Refuses (Leave node) limits old refusal = RefusesDeed deed.Leave node old refusal
 Refuses (Retire node) limits old refusal = RefusesRetire node old refusal
 Refuses (Stabilise node head) limits old refusal = RefusesUpkeep (ring.Stabilise node head) old refusal
 Refuses (Candidate node peer) limits old refusal = RefusesUpkeep (ring.Candidate node peer) old refusal

@@ -1,5 +1,5 @@
 -- How a node takes in a Part, a Got or a Declined.
-use Rattle.std.specs.Prelude.{◌≡◌, ℕ, Bool, true, false, Option, None, Some, List, slice_get}
+use Rattle.std.specs.Prelude.{ℕ, Bool, true, false, Option, None, Some}
 use Rattle.chord_handover.specs.declared.ticket.Ticket.{Ticket}
 use Rattle.chord_node.specs.declared.handovers.part_answer.PartAnswer.{PartAnswer}
 use Rattle.chord_node.specs.declared.handovers.part_answer.PartAnswer.TheVariants as given
@@ -7,16 +7,12 @@ use Rattle.chord_node.specs.declared.handovers.part_answer.Back.{Back}
 use Rattle.chord_node.specs.declared.handovers.part_answer.Back.TheVariants as back
 use Rattle.chord_model.specs.declared.message.Message.{Message}
 use Rattle.chord_model.specs.declared.message.Message.TheVariants.{Got as GotMessage, Declined as DeclinedMessage}
-use Rattle.chord_model.specs.Node.{Node, NodeStep}
+use Rattle.chord_model.specs.Node.{Node}
 use Rattle.chord_model.specs.World.{with_one}
 use Rattle.chord_world.specs.declared.outcome.Outcome.{Outcome}
 use Rattle.chord_world.specs.declared.outcome.Outcome.TheVariants as did
 use Rattle.chord_world.specs.State.{WorldState}
 use Rattle.chord_world.specs.Linking.{with_node}
-
--- the node at this index has it as its number
-abbrev pub IsNumbered : ℕ → List Node → Type 0
-IsNumbered place nodes = (node : Node) → slice_get nodes place ≡ Some node → node.number ≡ place
 
 -- the outcome of an answer to a part, if `count` messages were sent before; Clash has none, for it
 -- never happens
@@ -58,7 +54,3 @@ with_reply after message old =
       world = record (with_node after old).world { sent = with_one old.world.sent message };
       targets = with_one old.targets (no_target message);
     }
-
--- a Got is one step of its node
-abbrev pub GotSteps : Ticket → Node → Bool → Node → Type 0
-GotSteps ticket old found new = NodeStep old (Some (GotMessage ticket)) new None None

@@ -5,6 +5,7 @@
 //! does a list of steps, and its contract is the theorem: the replies are those of one map of sets.
 #![tactic(auto)]
 
+mod deed;
 mod fate;
 mod holder;
 mod members;

@@ -9,6 +9,7 @@ ghost use Rattle.chord_world.specs.Steps.{StepIs, StoresLeft, AdvancesBy};
 ghost use Rattle.chord_world.specs.Runs.{MineIs, ToldIs, StandsOnOneRing};
 ghost use Rattle.chord_world.specs.Linking.{LinksAre};
 
+use crate::deed::NodeDeed;
 use crate::fate::Fate;
 use crate::outcome::Outcome;
 use crate::refusal::Refusal;
@@ -160,12 +161,18 @@ impl<S: EntryStore> World<S> {
             Step::Deliver { message } => self.deliver(*message),
             Step::Show { caller } => self.show(*caller),
             Step::Meet { caller, message } => self.meet(*caller, *message),
-            Step::Cut { node, place, at } => self.cut(*node, *place, *at),
+            Step::Cut { node, place, at } => {
+                let (place, at) = (*place, *at);
+                self.act(*node, NodeDeed::Cut { place, at })
+            }
             Step::Merge {
                 node,
                 place,
                 behind,
-            } => self.merge(*node, *place, *behind),
+            } => {
+                let (place, behind) = (*place, *behind);
+                self.act(*node, NodeDeed::Merge { place, behind })
+            }
             Step::Give { node, place, to } => self.give(*node, *place, *to),
             Step::SendPart {
                 node,
@@ -173,7 +180,7 @@ impl<S: EntryStore> World<S> {
                 number,
                 part,
             } => self.send_part(*node, *to, *number, *part),
-            Step::Leave { node } => self.leave(*node),
+            Step::Leave { node } => self.act(*node, NodeDeed::Leave),
             Step::Retire { node } => self.retire(*node),
             Step::Stabilise { node, head } => self.stabilise(*node, *head),
             Step::Candidate { node, peer } => self.take_candidate(*node, *peer),

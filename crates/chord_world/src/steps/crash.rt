@@ -4,11 +4,12 @@ ghost use Rattle.chord_world.specs.State.{KeepsRing};
 ghost use Rattle.chord_world.specs.Steps.{Advances};
 ghost use Rattle.chord_world.specs.Upkeep.{CrashIs, RescueIs};
 
+use crate::deed::NodeDeed;
 use crate::fate::Fate;
 use crate::members::is_out;
 use crate::outcome::Outcome;
 use crate::refusal::{Refusal, StepFault};
-use crate::steps::hold::leave_in;
+use crate::steps::act::act_at;
 use crate::world::World;
 use chord_ring::{MemberReader, can_depart_in};
 use chord_store::EntryStore;
@@ -46,7 +47,8 @@ impl<S: EntryStore> World<S> {
             return Err(Refusal::Step(StepFault::NotCrashed));
         }
         self.fates[node as usize] = Fate::Rescued;
-        let _ = leave_in(&mut self.nodes, node as usize);
+        let (nodes, sent) = (&mut self.nodes, &mut self.sent);
+        let _ = act_at(nodes, sent, node as usize, NodeDeed::Leave);
         Ok(Outcome::Done)
     }
 }

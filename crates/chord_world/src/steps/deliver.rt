@@ -10,6 +10,7 @@ ghost use Rattle.chord_world.specs.Steps.{Advances};
 ghost use Rattle.chord_world.specs.Delivered.{DeliverIs, outcome_of, outcome_heard, target_of};
 ghost use Rattle.chord_world.specs.Delivering.{AnswersAt, AnswersCall, HearsAt, IsOwed, ReceiverIs, message_by};
 
+use crate::deed::NodeDeed;
 use crate::members::is_out;
 use crate::outcome::Outcome;
 use crate::refusal::{Refusal, StepFault};
@@ -192,15 +193,15 @@ impl<S: EntryStore> World<S> {
             Message::Full { .. } => Ok(Outcome::HeardFull),
             Message::Part(part) => {
                 let to = part.to;
-                self.deliver_part(place, to)
+                self.act(to, NodeDeed::TakePart { message })
             }
             Message::Got(got) => {
                 let got = *got;
-                self.deliver_got(place, got)
+                self.act(got.from, NodeDeed::TakeGot { got })
             }
             Message::Declined(declined) => {
                 let declined = *declined;
-                self.deliver_declined(place, declined)
+                self.act(declined.from, NodeDeed::TakeBack { declined })
             }
             Message::Note(_) => Err(Refusal::Step(StepFault::NeedsMeet)),
         }

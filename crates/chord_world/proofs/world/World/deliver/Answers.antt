@@ -5,6 +5,7 @@ use Rattle.chord_world.specs.State.{WorldState}
 use Rattle.chord_world.proofs.Answering.{read, read_there, full_delivers, full_step}
 use Rattle.chord_world.proofs.Acting.{keeps_all}
 use Rattle.chord_world.proofs.Posting.{created, not_zero}
+use Rattle.chord_world.proofs.Deeds.{part_received, got_received, back_received}
 use Rattle.chord_world.proofs.Handing.{is_zero, uncreated}
 use Rattle.chord_world.proofs.world.World.deliver.Goals as goal
 
@@ -13,15 +14,6 @@ deliver_ask-requires-clause-ask g c = (c.in-Ask.field-0, read_there c.self.insid
 
 pub deliver_told-requires-clause-told : goal.deliver_told-requires-clause-told
 deliver_told-requires-clause-told g c = (c.in-Told.field-0, read_there c.self.inside.sent.items (state_of c.self.inside) c.args.self.now refl c.self.view_is (omega arith) c.index.ensures c.in-Told.is)
-
-pub deliver_part-requires-clause-part : goal.deliver_part-requires-clause-part
-deliver_part-requires-clause-part g c = (c.in-Part.part, read_there c.self.inside.sent.items (state_of c.self.inside) c.args.self.now refl c.self.view_is (omega arith) c.index.ensures c.in-Part.is, ap (λ (p : Part). p.to) (sym c.part.view_is))
-
-pub deliver_got-requires-clause-got : goal.deliver_got-requires-clause-got
-deliver_got-requires-clause-got g c = read_there c.self.inside.sent.items (state_of c.self.inside) c.args.self.now refl c.self.view_is (omega arith) c.index.ensures c.in-Got.is
-
-pub deliver_declined-requires-clause-declined : goal.deliver_declined-requires-clause-declined
-deliver_declined-requires-clause-declined g c = read_there c.self.inside.sent.items (state_of c.self.inside) c.args.self.now refl c.self.view_is (omega arith) c.index.ensures c.in-Declined.is
 
 pub returns-in-Note-clause-answer : goal.returns-in-Note-clause-answer
 returns-in-Note-clause-answer g c = ((c.in-Note.field-0, read_there c.self.inside.sent.items (state_of c.self.inside) c.args.self.now refl c.self.view_is (omega arith) c.index.ensures c.in-Note.is), refl)
@@ -44,15 +36,6 @@ deliver_ask-requires-clause-created g c = created _ c.args.self.now c.self.view_
 pub deliver_told-requires-clause-created : goal.deliver_told-requires-clause-created
 deliver_told-requires-clause-created g c = created _ c.args.self.now c.self.view_is (let some = not_zero _ c.if-is_empty.ensures in omega arith)
 
-pub deliver_part-requires-clause-created : goal.deliver_part-requires-clause-created
-deliver_part-requires-clause-created g c = created _ c.args.self.now c.self.view_is (let some = not_zero _ c.if-is_empty.ensures in omega arith)
-
-pub deliver_got-requires-clause-created : goal.deliver_got-requires-clause-created
-deliver_got-requires-clause-created g c = created _ c.args.self.now c.self.view_is (let some = not_zero _ c.if-is_empty.ensures in omega arith)
-
-pub deliver_declined-requires-clause-created : goal.deliver_declined-requires-clause-created
-deliver_declined-requires-clause-created g c = created _ c.args.self.now c.self.view_is (let some = not_zero _ c.if-is_empty.ensures in omega arith)
-
 pub returns-then-is_empty : goal.returns-then-is_empty
 returns-then-is_empty g c = record {
   answer = (uncreated _ c.args.self.now c.self.view_is (let none = is_zero _ c.if-is_empty.ensures in omega arith), refl);
@@ -74,3 +57,45 @@ returns-in-Note-clause-ring g c = keeps_all c.args.self.now
 
 pub returns-in-Full-clause-ring : goal.returns-in-Full-clause-ring
 returns-in-Full-clause-ring g c = keeps_all c.args.self.now
+
+pub returns-in-Part-clause-answer : goal.returns-in-Part-clause-answer
+returns-in-Part-clause-answer g c =
+    part_received c.args.message c.part.inside.to c.in-Part.part (state_of c.self.inside) c.args.self.now
+    c.act.new.self c.act.result c.self.view_is c.self.invariant
+    (read_there c.self.inside.sent.items (state_of c.self.inside) c.args.self.now refl c.self.view_is (omega arith)
+    c.index.ensures c.in-Part.is)
+    (ap (λ (p : Part). p.to) (sym c.part.view_is)) c.act.ensures.answer
+
+pub act-requires-in-Got : goal.act-requires-in-Got
+act-requires-in-Got g c = (
+  refl,
+  (
+    c.args.message,
+    read_there c.self.inside.sent.items (state_of c.self.inside) c.args.self.now refl c.self.view_is (omega arith)
+        c.index.ensures c.in-Got.is,
+  ),
+)
+
+pub returns-in-Got-clause-answer : goal.returns-in-Got-clause-answer
+returns-in-Got-clause-answer g c =
+    got_received c.args.message c.in-Got.got (state_of c.self.inside) c.args.self.now c.act-in-Got.new.self
+    c.act-in-Got.result c.self.view_is c.self.invariant
+    (read_there c.self.inside.sent.items (state_of c.self.inside) c.args.self.now refl c.self.view_is (omega arith)
+    c.index.ensures c.in-Got.is) c.act-in-Got.ensures.answer
+
+pub act-requires-in-Declined : goal.act-requires-in-Declined
+act-requires-in-Declined g c = (
+  refl,
+  (
+    c.args.message,
+    read_there c.self.inside.sent.items (state_of c.self.inside) c.args.self.now refl c.self.view_is (omega arith)
+        c.index.ensures c.in-Declined.is,
+  ),
+)
+
+pub returns-in-Declined-clause-answer : goal.returns-in-Declined-clause-answer
+returns-in-Declined-clause-answer g c =
+    back_received c.args.message c.in-Declined.declined (state_of c.self.inside) c.args.self.now c.act-in-Declined.new.self
+    c.act-in-Declined.result c.self.view_is c.self.invariant
+    (read_there c.self.inside.sent.items (state_of c.self.inside) c.args.self.now refl c.self.view_is (omega arith)
+    c.index.ensures c.in-Declined.is) c.act-in-Declined.ensures.answer
