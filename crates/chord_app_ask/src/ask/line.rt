@@ -97,7 +97,7 @@ impl Asked<'_> {
     }
 }
 
-/// Why a key and a value of so many bytes make no request.
+/// The limit that a key and a value of these lengths break, if any.
 fn fault_of_counts(key: usize, value: usize) -> Option<WordFault>
     ensures { result ≡ fault_of_counts key value }
 {
