@@ -9,12 +9,15 @@ crash at random, and rescues those that crashed. At the end all are rescued, and
 once more. Then, for each key, it searches for an order of the requests that one set allows and that
 keeps to the times at which they were written and their replies read (the search of Wing and Gong).
 A request without a reply may stand anywhere behind its writing, or nowhere; its client goes on over
-the same connection. With --calm no node crashes, so each request is for the key of a node that
+the same connection. It tells the waits of all requests, and of those whose key some node answered
+for all the time: each of these above 20 ms with what the operator did meanwhile. With --calm no node crashes, so each request is for the key of a node that
 answers. With --plant it changes one reply before the search, which must then fail. It ends with a
 status other than 0 where something is wrong: a key without a history, a rescued node that is not
 gone, a key that is not served at the end, a client that was turned away.
 """
+import bisect
 import gc
+import hashlib
 import json
 import os
 import random
@@ -175,6 +178,10 @@ class Operator:
     def __init__(self, port, seed, is_calm):
         self.port, self.draw, self.is_calm = port, random.Random(seed), is_calm
         self.counts = {}
+        # When the ring was looked at, and the spans for which nobody answered then.
+        self.looked, self.dead = [], []
+        # What was done, with when it began and ended.
+        self.deeds = []
 
     def call(self, method, path, body=None):
         """The status of a call, and the JSON of its answer."""
@@ -189,10 +196,41 @@ class Operator:
             return refused.code, json.loads(refused.read() or b"null")
 
     def ring(self):
-        return self.call("GET", "/ring")[1]
+        """The ring. Notes what crashed nodes hold, and what others give to them."""
+        now = time.monotonic()
+        ring = self.call("GET", "/ring")[1]
+        lost = {n["node"] for n in ring["nodes"] if n["phase"] in ("crashed", "rescuing")}
+        spans = []
+        for node in ring["nodes"]:
+            held = node["segments"] + node["outbox"] if node["node"] in lost else []
+            given = [item for item in node["outbox"] if item["to"] in lost]
+            spans += [(int(s["after"], 16), int(s["upto"], 16)) for s in held + given]
+        self.looked.append(now)
+        self.dead.append(spans)
+        return ring
 
-    def count(self, what, status, answer):
+    def is_dead(self, request):
+        """Whether nobody answered for the key of a request, at some look from the last one before it
+        was written to the first one behind its reply."""
+        place = int(hashlib.sha1(request.key).hexdigest()[:32], 16)
+        first = max(0, bisect.bisect(self.looked, request.written) - 1)
+        behind = bisect.bisect(self.looked, request.read) + 1
+        return any(
+            (place - after - 1) % 2**128 <= (upto - after - 1) % 2**128
+            for spans in self.dead[first:behind]
+            for after, upto in spans
+        )
+
+    def deeds_during(self, request):
+        """What the operator did while a request was under way."""
+        begin, end = request.written - 0.1, request.read
+        return [what for since, until, what in self.deeds if since < end and begin < until]
+
+    def do(self, what, path, body=None):
+        begun = time.monotonic()
+        status, answer = self.call("POST", path, body)
         name = what if status < 300 else f"{what}: {answer['refused']}"
+        self.deeds.append((begun, time.monotonic(), name))
         self.counts[name] = self.counts.get(name, 0) + 1
         if status >= 500:
             raise AssertionError(f"{what}: {status} {answer}")
@@ -204,16 +242,17 @@ class Operator:
         crashed = [n["node"] for n in nodes if n["phase"] == "crashed"]
         what = self.draw.random()
         if len(live) <= LEAST_LIVE or (len(live) < MOST_LIVE and what < 0.4):
-            self.count("join", *self.call("POST", "/nodes", {}))
+            self.do("join", "/nodes", {})
         elif what < 0.8 or self.is_calm:
-            self.count("leave", *self.call("POST", f"/nodes/{self.draw.choice(live)}/leave"))
+            self.do("leave", f"/nodes/{self.draw.choice(live)}/leave")
         elif crashed and (what < 0.9 or len(crashed) >= MOST_CRASHED):
             self.rescue(self.draw.choice(crashed))
         else:
-            self.count("crash", *self.call("POST", f"/nodes/{self.draw.choice(live)}/crash", {}))
+            self.do("crash", f"/nodes/{self.draw.choice(live)}/crash", {})
+            self.ring()
 
     def rescue(self, node):
-        self.count("rescue", *self.call("POST", f"/nodes/{node}/rescue"))
+        self.do("rescue", f"/nodes/{node}/rescue")
 
     def rescue_all(self, seconds):
         """Rescues each node that crashed, and gives those that are not gone within this time."""
@@ -314,10 +353,14 @@ def main():
             server.kill()
 
 
+def took_of(request):
+    """How long a request with a reply took, in milliseconds."""
+    return 1000 * (request.read - request.written)
+
+
 def waits(requests):
-    """How long the requests with a reply took, in milliseconds: four of them by rank, and how many
-    took more than 100."""
-    took = sorted(1000 * (r.read - r.written) for r in requests if r.read is not None)
+    """How long requests took: four of them by rank, and how many took more than 100 ms."""
+    took = sorted(map(took_of, requests))
     ranks = [(share, took[int((len(took) - 1) * share)]) for share in (0.5, 0.99, 0.999, 0.9999)]
     told = ", ".join(f"p{100 * share:g} {wait:.2f}" for share, wait in ranks)
     return f"{told}, longest {took[-1]:.1f} ms; {sum(t > 100 for t in took)} above 100 ms"
@@ -343,7 +386,10 @@ def operate(server, ports, operator, seconds, seed, plants):
     faults += [f"{key} is not served" for key in last.read_all()]
     requests = [request for client in clients for request in client.requests]
     missing = sum(request.read is None for request in requests)
-    times = waits(requests)
+    replied = [request for request in requests if request.read is not None]
+    slow = [request for request in replied if took_of(request) > 20]
+    dead = [request for request in slow if operator.is_dead(request)]
+    live = set(replied).difference(dead)
     requests += last.requests
     if plants:
         told = [r for r in requests if r.read is not None and r.operation == RETRIEVE and r.reply]
@@ -360,7 +406,12 @@ def operate(server, ports, operator, seconds, seed, plants):
     print("operator:", ", ".join(f"{n} {what}" for what, n in sorted(operator.counts.items())))
     print("nodes:", ", ".join(f"{phases.count(p)} {p}" for p in sorted(set(phases))))
     print(f"requests without a reply: {missing}; callers open: {ring['callers']['open']}")
-    print(f"requests with one: {times}")
+    print(f"requests with one: {waits(replied)}")
+    print(f"without {len(dead)} that waited for a crashed node's key: {waits(live)}")
+    for request in sorted(set(slow).difference(dead), key=took_of):
+        begun = request.written - clients[0].requests[0].written
+        deeds = ", ".join(operator.deeds_during(request)) or "nothing"
+        print(f"  {took_of(request):.1f} ms at {begun:.3f} s, when the operator did: {deeds}")
     time.sleep(4)
     print(f"memory: {resident(server):.0f} MiB; idle: {100 * load_of(server, 5):.2f}% of a processor")
     print("one history for each key" if not faults else "WRONG: " + "; ".join(faults[:5]))

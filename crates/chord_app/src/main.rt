@@ -13,7 +13,9 @@ use chord_app_options::{
 };
 use chord_app_plan::{Plan, PlanFault, Settings, StoreKind, read_plan};
 use chord_app_serve::{ServerStores, run, serve, stay};
-use chord_app_sockets::{ClientSeconds, Doors, Host, OperatorPort, ServerSetup, listen};
+use chord_app_sockets::{
+    ClientSeconds, Doors, Host, OperatorPort, ProcessFiles, ServerSetup, listen,
+};
 use chord_app_text::Finish;
 use chord_app_world::{empty_ones, world};
 use chord_store::{CappedStore, EntryStore, ListStore, NotedStore};
@@ -105,6 +107,7 @@ fn listen_at<T: Host>(threads: &T, port: Option<u16>) -> Result<Option<TcpListen
 struct OperatorDoor {
     listener: TcpListener,
     keys: RandomState,
+    process: Option<ProcessFiles>,
 }
 
 impl OperatorDoor {
@@ -119,13 +122,19 @@ impl OperatorDoor {
         };
         let keys = RandomState::new(rt)?;
         let listener = listen(threads, port)?;
-        Ok(Some(OperatorDoor { listener, keys }))
+        let process = ProcessFiles::open(rt).ok();
+        Ok(Some(OperatorDoor {
+            listener,
+            keys,
+            process,
+        }))
     }
 
     fn port(&self) -> OperatorPort<'_> {
         OperatorPort {
             listener: &self.listener,
             keys: self.keys,
+            process: self.process.as_ref(),
         }
     }
 }

@@ -210,12 +210,12 @@ impl<'l, 'a, A: Drop, I> EventLoop<'l, 'a, A, I> {
 impl<'a, A: Asker + Drop, I: Informs> EventLoop<'_, 'a, A, I> {
     /// Answers what this client sent. Tells why the connection is to be returned, with the answers
     /// that the client has not taken.
-    fn answer(&mut self, ready: Ready) -> Option<(Why, Vec<u8>)> {
+    fn answer(&mut self, clients: &Clients, ready: Ready) -> Option<(Why, Vec<u8>)> {
         let alloc = self.alloc;
         let lent = self.lent.get_mut(ready.key)?;
         lent.is_busy = true;
-        let mut reader = &*lent.stream;
-        let mut writer = PromptWriter::new(alloc, &*lent.stream);
+        let mut reader = clients.counted(&*lent.stream);
+        let mut writer = PromptWriter::new(alloc, clients.counted(&*lent.stream));
         let why = take_turn(
             alloc,
             &mut self.buffers,
@@ -235,8 +235,8 @@ impl<'a, A: Asker + Drop, I: Informs> EventLoop<'_, 'a, A, I> {
     }
 
     /// Answers a client, and returns its connection if that is to be.
-    fn serve<R: Wait>(&mut self, rt: &R, ready: Ready) {
-        let Some((why, rest)) = self.answer(ready) else {
+    fn serve<R: Wait>(&mut self, rt: &R, clients: &Clients, ready: Ready) {
+        let Some((why, rest)) = self.answer(clients, ready) else {
             return;
         };
         match self.lent.try_remove(ready.key) {
@@ -246,11 +246,11 @@ impl<'a, A: Asker + Drop, I: Informs> EventLoop<'_, 'a, A, I> {
     }
 
     /// Answers the clients that sent something.
-    fn serve_ready<R: Wait>(&mut self, rt: &R) {
+    fn serve_ready<R: Wait>(&mut self, rt: &R, clients: &Clients) {
         for at in 0..self.ready.len() {
             if let Some(ready) = self.ready.get(at) {
                 let ready = *ready;
-                self.serve(rt, ready);
+                self.serve(rt, clients, ready);
             }
         }
     }
@@ -265,7 +265,7 @@ impl<'a, A: Asker + Drop, I: Informs> EventLoop<'_, 'a, A, I> {
                 break;
             }
             let began = Instant::now(rt).ok();
-            self.serve_ready(rt);
+            self.serve_ready(rt, clients);
             self.look_at_clock(rt, began);
             if waited.is_err() || clients.are_told_to_end() {
                 self.give_back_all(rt, Why::Busy);

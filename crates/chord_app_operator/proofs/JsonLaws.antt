@@ -7,11 +7,12 @@ use Rattle.std.specs.declared.cmp.Ordering.{Ordering}
 use Rattle.std.specs.declared.cmp.Ordering.TheVariants.{Less, Equal, Greater}
 use Rattle.serde_json.specs.Data.{Data, Members, no_members, member, put}
 use Rattle.serde_json.specs.Written.{has_float, members_have_float}
+use Rattle.chord_app_operator.specs.declared.sight.answers.ProtocolAnswers.{ProtocolAnswers}
 use Rattle.chord_app_operator.specs.declared.sight.node.StoredNode.{StoredNode}
 use Rattle.chord_app_operator.specs.declared.sight.ring.RingSight.{RingSight}
 use Rattle.chord_app_operator.specs.declared.sight.traffic.EndCounts.{EndCounts}
 use Rattle.chord_app_operator.specs.declared.sight.traffic.SessionCounts.{SessionCounts}
-use Rattle.chord_app_operator.specs.Json.{with_members, record_of, optional_data, list_data, count_data, segment_members, segment_data, outbox_members, outbox_data, asks_members, handovers_members, callers_members, ends_members, ends_data, sessions_members, sessions_data, name_members, link_members, held_members, done_members, node_data, ring_members, ring_data}
+use Rattle.chord_app_operator.specs.Json.{with_members, record_of, optional_data, list_data, count_data, segment_members, segment_data, outbox_members, outbox_data, asks_members, handovers_members, callers_members, answers_members, protocols_members, protocols_data, ends_members, ends_data, sessions_members, sessions_data, name_members, link_members, held_members, done_members, node_data, ring_members, ring_data}
 
 abbrev NoFloat : List ℕ × Data → Type 0
 NoFloat m = has_float m.1 ≡ false
@@ -62,18 +63,18 @@ ends_no_float c = record_no_float (ends_members c) (refl, (refl, (refl, (refl, (
 sessions_no_float : (c : SessionCounts) → has_float (sessions_data c) ≡ false
 sessions_no_float c = record_no_float (sessions_members c) (refl, (refl, (refl, (refl, tt))))
 
+protocols_no_float : (p : ProtocolAnswers) → has_float (protocols_data p) ≡ false
+protocols_no_float p =
+    let frames = record_no_float (answers_members p.frames) (refl, (refl, (refl, (refl, (refl, tt))))) in
+    let redis = record_no_float (answers_members p.redis) (refl, (refl, (refl, (refl, (refl, tt))))) in
+    record_no_float (protocols_members p) (frames, (redis, tt))
+
 pub ring_no_float : (r : RingSight) → has_float (ring_data r) ≡ false
 ring_no_float r =
-    record_no_float (ring_members r) (
-      refl,
-      (
-        refl,
-        (
-          refl,
-          (
-            record_no_float (callers_members r.callers) (refl, (refl, tt)),
-            (refl, (ends_no_float r.ends, (sessions_no_float r.sessions, (refl, (list_no_float node_data node_no_float r.nodes.items, tt))))),
-          ),
-        ),
-      ),
-    )
+    let callers = record_no_float (callers_members r.callers) (refl, (refl, (refl, tt))) in
+    let nodes = list_no_float node_data node_no_float r.nodes.items in
+    let ends = ends_no_float r.ends in
+    let sessions = sessions_no_float r.sessions in
+    let answers = protocols_no_float r.answers in
+    record_no_float (ring_members r)
+    (refl, (refl, (refl, (callers, (refl, (ends, (sessions, (answers, (refl, (nodes, tt))))))))))

@@ -1,6 +1,7 @@
 -- Lines one after another.
 use Rattle.std.proofs.Common.{◌≡◌, ℕ, ◌<◌, ◌+◌, List, [], ◌∷◌, ◌++◌, length, drop, get_or, Result, Ok, Err, OnOk, sym, ap, ◌∙◌, append_assoc, arith}
-use Rattle.std.specs.Prelude.{⊤}
+use Rattle.std.specs.Prelude.{⊤, if◌then◌else◌}
+use Rattle.std.specs.Result.{is_ok}
 use Rattle.std.specs.declared.alloc.AllocError.{AllocError}
 use Rattle.std.proofs.lemmas.Grind.{common_steps}
 use Rattle.std.specs.List.{flat_map}
@@ -23,6 +24,11 @@ three_texts a b c t0 t1 t2 t3 e0 e1 e2 e3 = e3 ∙ (ap (λ t. t ++ c) (e2 ∙ ap
 -- a text after nothing, and one behind another
 pub from_nothing : (a t0 t1 : List ℕ) → t0 ≡ [] → t1 ≡ t0 ++ a → t1 ≡ a
 from_nothing a t0 t1 e0 e1 = e1 ∙ ap (λ t. t ++ a) e0
+
+-- a text that was pushed
+pub pushed : (a : List ℕ) (outcome : Result ⊤ AllocError) (t0 t1 : List ℕ) → t1 ≡ (if is_ok outcome then t0 ++ a else t0) → OnOk outcome (t1 ≡ t0 ++ a)
+pushed a (Ok done) t0 t1 e = e
+pushed a (Err refused) t0 t1 e = tt
 
 pub two_behind : (a b : List ℕ) (outcome : Result ⊤ AllocError) (t0 t1 t2 : List ℕ) → t1 ≡ t0 ++ a → OnOk outcome (t2 ≡ t1 ++ b) → OnOk outcome (t2 ≡ t0 ++ (a ++ b))
 two_behind a b (Ok done) t0 t1 t2 e1 e2 = e2 ∙ (ap (λ t. t ++ b) e1 ∙ append_assoc t0 a b)

@@ -11,6 +11,8 @@ use Rattle.chord_sight.specs.declared.parts.SegmentSight.{SegmentSight}
 use Rattle.chord_sight.specs.declared.parts.OutboxSight.{OutboxSight}
 use Rattle.chord_sight.specs.declared.counts.AskCounts.{AskCounts}
 use Rattle.chord_sight.specs.declared.counts.HandoverCounts.{HandoverCounts}
+use Rattle.chord_app_operator.specs.declared.sight.answers.AnswerCounts.{AnswerCounts}
+use Rattle.chord_app_operator.specs.declared.sight.answers.ProtocolAnswers.{ProtocolAnswers}
 use Rattle.chord_app_operator.specs.declared.sight.counts.CallerCounts.{CallerCounts}
 use Rattle.chord_app_operator.specs.declared.sight.node.StoredNode.{StoredNode}
 use Rattle.chord_sight.specs.declared.node.NodeSight.{NodeSight}
@@ -116,10 +118,29 @@ abbrev pub handovers_data : HandoverCounts → Data
 handovers_data h = record_of (handovers_members h)
 
 abbrev pub callers_members : CallerCounts → List (List ℕ × Data)
-callers_members c = (codes "open", count_data c.open) ∷ (codes "all", count_data c.all) ∷ []
+callers_members c =
+    (codes "open", count_data c.open) ∷ (codes "all", count_data c.all)
+    ∷ (codes "pending", count_data c.pending) ∷ []
 
 abbrev pub callers_data : CallerCounts → Data
 callers_data c = record_of (callers_members c)
+
+-- answers, in one protocol and in both
+abbrev pub answers_members : AnswerCounts → List (List ℕ × Data)
+answers_members a =
+    (codes "reply", count_data a.reply) ∷ (codes "full", count_data a.full)
+    ∷ (codes "noanswer", count_data a.no_answer) ∷ (codes "memory", count_data a.memory)
+    ∷ (codes "refused", count_data a.refused) ∷ []
+
+abbrev pub answers_data : AnswerCounts → Data
+answers_data a = record_of (answers_members a)
+
+abbrev pub protocols_members : ProtocolAnswers → List (List ℕ × Data)
+protocols_members p =
+    (codes "frames", answers_data p.frames) ∷ (codes "redis", answers_data p.redis) ∷ []
+
+abbrev pub protocols_data : ProtocolAnswers → Data
+protocols_data p = record_of (protocols_members p)
 
 -- which node it is, its links, what it holds, and what it did
 abbrev pub name_members : StoredNode → List (List ℕ × Data)
@@ -152,7 +173,7 @@ abbrev pub server_members : RingSight → List (List ℕ × Data)
 server_members r =
     (codes "successors", count_data r.successors) ∷ (codes "slots", count_data r.slots) ∷ (codes "premise", boolean r.premise)
     ∷ (codes "callers", callers_data r.callers) ∷ (codes "connections", count_data r.connections) ∷ (codes "ends", ends_data r.ends) ∷ (codes "sessions", sessions_data r.sessions)
-    ∷ (codes "uptime_ms", count_data r.uptime_ms) ∷ []
+    ∷ (codes "answers", protocols_data r.answers) ∷ (codes "uptime_ms", count_data r.uptime_ms) ∷ []
 
 abbrev pub ring_members : RingSight → List (List ℕ × Data)
 ring_members r = server_members r ++ (codes "nodes", list_data node_data r.nodes.items) ∷ []

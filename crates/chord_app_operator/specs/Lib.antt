@@ -1,5 +1,6 @@
 pub mod Bodies
 pub mod Conversations
+pub mod Health
 pub mod Json
 pub mod Lines
 pub mod Metrics

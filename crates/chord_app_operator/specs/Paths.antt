@@ -8,7 +8,7 @@ use Rattle.chord_ident.specs.Circle.{key_id}
 use Rattle.chord_app_operator.specs.declared.request.verb.Verb.{Verb}
 use Rattle.chord_app_operator.specs.declared.request.verb.Verb.TheVariants.{Look, Act}
 use Rattle.chord_app_operator.specs.declared.request.resource.Resource.{Resource}
-use Rattle.chord_app_operator.specs.declared.request.resource.Resource.TheVariants.{Page, Ring, Metrics, Health, Nodes, Leave, Crash, Rescue, Holder, Pairs, Stop}
+use Rattle.chord_app_operator.specs.declared.request.resource.Resource.TheVariants.{Page, Ring, Metrics, Health, Ready, Nodes, Leave, Crash, Rescue, Holder, Pairs, Stop}
 
 -- one looks at a resource or acts on it
 abbrev pub verb_of : Resource → Verb
@@ -16,6 +16,7 @@ verb_of Page = Look
 verb_of Ring = Look
 verb_of Metrics = Look
 verb_of Health = Look
+verb_of Ready = Look
 verb_of Nodes = Act
 verb_of (Leave node) = Act
 verb_of (Crash node) = Act
@@ -46,9 +47,10 @@ plain_resource path =
     else (if bytes_eq path (codes "/ring") then Some Ring
     else (if bytes_eq path (codes "/metrics") then Some Metrics
     else (if bytes_eq path (codes "/health") then Some Health
+    else (if bytes_eq path (codes "/ready") then Some Ready
     else (if bytes_eq path (codes "/nodes") then Some Nodes
     else (if bytes_eq path (codes "/pairs") then Some Pairs
-    else (if bytes_eq path (codes "/stop") then Some Stop else None))))))
+    else (if bytes_eq path (codes "/stop") then Some Stop else None)))))))
 
 -- /nodes/N and then this
 abbrev pub node_before : List ℕ → List ℕ → Option ℕ

@@ -1,7 +1,8 @@
 -- What a service asks an operator, and what it may be told. Source: our own.
-use Rattle.std.specs.Prelude.{ℕ, Bool, ⊤, Result}
+use Rattle.std.specs.Prelude.{ℕ, ⊤, Result}
 use Rattle.std.specs.declared.alloc.AllocError.{AllocError}
 use Rattle.chord_ident.specs.declared.id.Id.{Id}
+use Rattle.chord_app_operator.specs.declared.sight.health.HealthSight.{HealthSight}
 use Rattle.chord_app_operator.specs.declared.sight.ring.RingSight.{RingSight}
 use Rattle.chord_app_operator.specs.declared.request.calls.JoinRequest.{JoinRequest}
 use Rattle.chord_app_operator.specs.declared.request.calls.CrashRequest.{CrashRequest}
@@ -28,7 +29,7 @@ pub data Question : Type 0 where
 -- an operator's answer
 pub data Answer : Type 0 where
   Seen : Result RingSight AllocError → Answer
-  IsHealthy : Bool → Answer
+  HealthTold : HealthSight → Answer
   Joined : Result ℕ JoinRefusal → Answer
   BeganToLeave : Result ⊤ LeaveRefusal → Answer
   HasCrashed : Result ⊤ CrashRefusal → Answer

@@ -1,5 +1,5 @@
 -- The responses. Source: our own, over RFC 9110.
-use Rattle.std.specs.Prelude.{ℕ, List, [], ◌∷◌, ◌++◌, Bool, if◌then◌else◌, codes, Option, Some, None}
+use Rattle.std.specs.Prelude.{ℕ, List, [], ◌∷◌, ◌++◌, codes, Option, Some, None}
 use Rattle.serde_json.specs.Data.{Data}
 use Rattle.serde_json.specs.Written.{compact_text}
 use Rattle.http1.specs.Fields.{Header}
@@ -42,10 +42,10 @@ IsPage response = IsResponse 200 (typed html_type ++ (codes "content-security-po
 abbrev pub IsJson : ℕ → Data → Response → Type 0
 IsJson code value response = IsResponse code (typed json_type) (compact_text value) response
 
--- `ok`, or that no node stays
-abbrev pub IsHealth : Bool → Response → Type 0
-IsHealth healthy response =
-    IsResponse (if healthy then 200 else 503) (typed text_type) (if healthy then codes "ok\n" else codes "no node is staying\n") response
+-- `ok`, or why not
+abbrev pub IsState : Option (List ℕ) → Response → Type 0
+IsState None response = IsResponse 200 (typed text_type) (codes "ok\n") response
+IsState (Some reason) response = IsResponse 503 (typed text_type) reason response
 
 -- the type of an answer in a form, and its body: of a value in JSON, or of lines
 abbrev pub type_in : Format → List ℕ

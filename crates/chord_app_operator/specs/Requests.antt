@@ -11,7 +11,7 @@ use Rattle.chord_app_operator.specs.declared.request.format.Format.TheVariants.{
 use Rattle.chord_app_operator.specs.declared.request.refusal.Refusal.{Refusal}
 use Rattle.chord_app_operator.specs.declared.request.refusal.Refusal.TheVariants.{ForeignHost, ForeignOrigin, NoSuchPath, WrongMethod, BodyTooLong, Bad, Memory}
 use Rattle.chord_app_operator.specs.declared.request.resource.Resource.{Resource}
-use Rattle.chord_app_operator.specs.declared.request.resource.Resource.TheVariants.{Page, Ring, Metrics, Health, Nodes, Leave, Crash, Rescue, Holder, Pairs, Stop}
+use Rattle.chord_app_operator.specs.declared.request.resource.Resource.TheVariants.{Page, Ring, Metrics, Health, Ready, Nodes, Leave, Crash, Rescue, Holder, Pairs, Stop}
 use Rattle.chord_app_operator.specs.Words.{allows}
 use Rattle.chord_app_operator.specs.Outcomes.{and_then}
 use Rattle.chord_app_operator.specs.Sites.{is_for_own_host, is_from_own_origin}
@@ -34,6 +34,7 @@ call_at Page query body = Ok Call.Page
 call_at Ring query body = Ok Call.Ring
 call_at Metrics query body = Ok Call.Metrics
 call_at Health query body = Ok Call.Health
+call_at Ready query body = Ok Call.Ready
 call_at Nodes query body = make Call.Join (and_then join_of (body_object body))
 call_at (Leave node) query body = Ok (Call.Leave node)
 call_at (Crash node) query body = make (λ forced. Call.Crash (record { node = node; is_forced = forced })) (and_then force_of (body_object body))

@@ -1,6 +1,6 @@
 -- What a service answers, and what it asks its operator: each request at most one question. Source:
 -- our own.
-use Rattle.std.specs.Prelude.{◌≡◌, ◌⊎◌, ℕ, List, Bool, ⊤, codes, Result, Ok, Err}
+use Rattle.std.specs.Prelude.{◌≡◌, ◌⊎◌, ℕ, List, ⊤, codes, Result, Ok, Err}
 use Rattle.std.specs.declared.alloc.AllocError.{AllocError}
 use Rattle.http.specs.declared.request.Request.{Request}
 use Rattle.http.specs.Request.{head_of, body_of}
@@ -11,6 +11,7 @@ use Rattle.chord_app_operator.specs.declared.request.refusal.Refusal.{Refusal}
 use Rattle.chord_app_operator.specs.declared.request.refusal.Refusal.TheVariants as R
 use Rattle.chord_app_operator.specs.declared.request.calls.OperatorCall.{OperatorCall}
 use Rattle.chord_app_operator.specs.declared.request.calls.OperatorCall.TheVariants as Call
+use Rattle.chord_app_operator.specs.declared.sight.health.HealthSight.{HealthSight}
 use Rattle.chord_app_operator.specs.declared.sight.ring.RingSight.{RingSight}
 use Rattle.chord_app_operator.specs.declared.operator.pairs.PairsPage.{PairsPage}
 use Rattle.chord_app_operator.specs.declared.operator.holder.Holder.{Holder}
@@ -18,11 +19,12 @@ use Rattle.chord_app_operator.specs.declared.operator.refusals.JoinRefusal.{Join
 use Rattle.chord_app_operator.specs.declared.operator.refusals.LeaveRefusal.{LeaveRefusal}
 use Rattle.chord_app_operator.specs.declared.operator.refusals.CrashRefusal.{CrashRefusal}
 use Rattle.chord_app_operator.specs.declared.operator.refusals.RescueRefusal.{RescueRefusal}
-use Rattle.chord_app_operator.specs.Questions.{Question, Sight, Health, Join, Leave, Crash, Rescue, Hold, ReadPairs, Stop, Answer, Seen, IsHealthy, Joined, BeganToLeave, HasCrashed, RescueBegan, Held, PairsRead, Stopping}
+use Rattle.chord_app_operator.specs.Questions.{Question, Sight, Health, Join, Leave, Crash, Rescue, Hold, ReadPairs, Stop, Answer, Seen, HealthTold, Joined, BeganToLeave, HasCrashed, RescueBegan, Held, PairsRead, Stopping}
 use Rattle.chord_app_operator.specs.Requests.{UnlessMemory, format_of, requested}
 use Rattle.chord_app_operator.specs.Json.{holder_data}
+use Rattle.chord_app_operator.specs.Health.{unhealthy, unready}
 use Rattle.chord_app_operator.specs.Metrics.{metrics_text}
-use Rattle.chord_app_operator.specs.Replies.{typed, text_type, metrics_type, IsPage, IsJson, IsHealth, IsRing, IsNode, IsRefused, IsPairs, IsFull}
+use Rattle.chord_app_operator.specs.Replies.{typed, text_type, metrics_type, IsPage, IsJson, IsState, IsRing, IsNode, IsRefused, IsPairs, IsFull}
 
 -- the response to what the operator told
 abbrev pub ShowsRing : Format → Result RingSight AllocError → Response → Type 0
@@ -67,7 +69,11 @@ module _ {O : Type 0} (answers : O → Question → Answer → O → Type 0) whe
   IsAnswered format Call.Metrics old response new =
       (told : Result RingSight AllocError) × answers old Sight (Seen told) new × OrFull (ShowsMetrics format told response) response
   IsAnswered format Call.Health old response new =
-      (told : Bool) × answers old Health (IsHealthy told) new × OrFull (IsHealth told response) response
+      (told : HealthSight) × answers old Health (HealthTold told) new
+      × OrFull (IsState (unhealthy told) response) response
+  IsAnswered format Call.Ready old response new =
+      (told : HealthSight) × answers old Health (HealthTold told) new
+      × OrFull (IsState (unready told) response) response
   IsAnswered format (Call.Join request) old response new =
       (told : Result ℕ JoinRefusal) × answers old (Join request) (Joined told) new × OrFull (ShowsJoin format told response) response
   IsAnswered format (Call.Leave node) old response new =

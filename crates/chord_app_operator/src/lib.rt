@@ -24,4 +24,7 @@ pub use show::{
     Stretch, ToJson, array, holder_value, hundredths, id_text, metrics_text, optional, pair_lines,
     ring_table, ring_text,
 };
-pub use sight::{CallerCounts, EndCounts, RingSight, SessionCounts, StoredNode};
+pub use sight::{
+    AnswerCounts, ByteCounts, CallerCounts, EndCounts, HealthSight, ProcessSight, ProtocolAnswers,
+    RequestTimes, RingSight, SessionCounts, StoredNode, TimeCount,
+};

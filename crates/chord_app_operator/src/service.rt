@@ -11,8 +11,8 @@ use crate::request::{
     CrashRequest, Format, JoinRequest, OperatorCall, PairsRequest, Refusal, Site,
 };
 use crate::show::replies::{
-    or_full, refuse, show_health, show_holder, show_metrics, show_node, show_page, show_pairs,
-    show_ring, show_stopping,
+    or_full, refuse, show_holder, show_metrics, show_node, show_page, show_pairs, show_ring,
+    show_state, show_stopping,
 };
 use crate::sight::RingSight;
 use bytes::Bytes;
@@ -133,7 +133,15 @@ fn health<O: Operator>(operator: &mut O, response: &mut Response)
     requires { IsBlank response.old }
     ensures { (format : Format) → IsAnswered O.answers format Call.Health operator.old response.new operator.new }
 {
-    let shown = show_health(operator.is_healthy(), response);
+    let shown = show_state(operator.health().unhealthy(), response);
+    or_full(shown, response);
+}
+
+fn ready<O: Operator>(operator: &mut O, response: &mut Response)
+    requires { IsBlank response.old }
+    ensures { (format : Format) → IsAnswered O.answers format Call.Ready operator.old response.new operator.new }
+{
+    let shown = show_state(operator.health().unready(), response);
     or_full(shown, response);
 }
 
@@ -275,6 +283,7 @@ fn answer<O: Operator>(
         OperatorCall::Ring => ring(alloc, format, operator, response),
         OperatorCall::Metrics => metrics(alloc, format, operator, response),
         OperatorCall::Health => health(operator, response),
+        OperatorCall::Ready => ready(operator, response),
         OperatorCall::Join(request) => join(alloc, format, operator, request, response),
         OperatorCall::Leave(node) => leave(alloc, format, operator, node, response),
         OperatorCall::Crash(request) => crash(alloc, format, operator, request, response),

@@ -1,5 +1,6 @@
 //! What is answered.
 
+mod answer_count;
 mod front_page;
 mod holder_json;
 mod inserts;

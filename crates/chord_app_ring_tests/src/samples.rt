@@ -2,7 +2,8 @@
 //! `empty_node(alloc, 3, 0, Phase::Gone)`, and a ring without nodes.
 
 use chord_app_operator::{
-    CallerCounts, EndCounts, RingSight, SessionCounts, StoreKind, StoredNode,
+    AnswerCounts, ByteCounts, CallerCounts, EndCounts, ProcessSight, ProtocolAnswers, RequestTimes,
+    RingSight, SessionCounts, StoreKind, StoredNode,
 };
 use chord_ident::Id;
 use chord_sight::{AskCounts, HandoverCounts, NodeCounts, NodeSight, Phase};
@@ -59,7 +60,11 @@ pub fn empty_ring(alloc: Global) -> RingSight {
         successors: 4,
         slots: 16,
         premise: true,
-        callers: CallerCounts { open: 3, all: 64 },
+        callers: CallerCounts {
+            open: 3,
+            all: 64,
+            pending: 2,
+        },
         connections: 5,
         ends: EndCounts {
             ended: 10,
@@ -78,6 +83,35 @@ pub fn empty_ring(alloc: Global) -> RingSight {
             resumed: 21,
             dropped: 22,
             refused: 23,
+        },
+        answers: ProtocolAnswers {
+            frames: AnswerCounts {
+                reply: 24,
+                full: 25,
+                no_answer: 26,
+                memory: 27,
+                refused: 28,
+            },
+            redis: AnswerCounts {
+                reply: 29,
+                full: 30,
+                no_answer: 31,
+                memory: 32,
+                refused: 33,
+            },
+        },
+        times: RequestTimes {
+            within: Vec::new(alloc),
+            count: 36,
+            sum: 1234567,
+        },
+        bytes: ByteCounts {
+            read: 37,
+            written: 38,
+        },
+        process: ProcessSight {
+            resident: 4096,
+            processor_ms: 1250,
         },
         uptime_ms: 12345,
         nodes: Vec::new(alloc),

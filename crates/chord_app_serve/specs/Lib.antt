@@ -1,8 +1,11 @@
 pub mod Answered
 pub mod Asked
+pub mod Counts
 pub mod Gaps
 pub mod InSession
+pub mod Keeping
 pub mod Pace
 pub mod Shown
+pub mod Times
 pub mod Together
 pub mod ReadPairs

@@ -15,3 +15,5 @@ pub use gap::{Gap, free_id};
 pub use pace::Pace;
 pub use plan_run::{AskResult, run};
 pub use serving::commands::{ServerStores, serve, stay};
+pub use serving::process::{process_sight, processor_ms_of, resident_of};
+pub use serving::request_times::place_of;

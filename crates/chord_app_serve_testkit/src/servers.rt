@@ -99,6 +99,7 @@ impl Listeners {
             Some(keys) => Some(OperatorPort {
                 listener: &self.operator,
                 keys,
+                process: None,
             }),
             None => None,
         }

@@ -3,6 +3,7 @@
 mod commands;
 mod no_memory;
 mod plan_runs;
+mod process;
 mod servers;
 mod sessions;
 mod upkeep;

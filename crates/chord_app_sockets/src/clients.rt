@@ -1,8 +1,9 @@
 //! Open connections.
 
+use crate::counted::CountedStream;
 use std::alloc::{AllocError, Global};
 use std::net::{Shutdown, TcpStream};
-use std::sync::atomic::{AtomicBool, Ordering};
+use std::sync::atomic::{AtomicBool, AtomicU64, Ordering};
 use std::sync::{Arc, Condvar, CondvarTimeouts, Mutex, Wait};
 use std::time::{Clock, Duration};
 
@@ -16,6 +17,10 @@ pub struct Clients {
     /// Is notified when a connection is removed.
     removed: Condvar,
     told_to_end: AtomicBool,
+    /// How many bytes came from all clients so far.
+    bytes_read: AtomicU64,
+    /// How many went to them.
+    bytes_written: AtomicU64,
 }
 
 impl Clients {
@@ -24,6 +29,8 @@ impl Clients {
             open: Mutex::new(Vec::new(alloc)),
             removed: Condvar::new(),
             told_to_end: AtomicBool::new(false),
+            bytes_read: AtomicU64::new(0),
+            bytes_written: AtomicU64::new(0),
         }
     }
 
@@ -62,6 +69,32 @@ impl Clients {
     pub fn wait_for_all(&self, rt: &impl Wait) {
         let open = self.open.lock(rt);
         drop(self.removed.wait_while(rt, open, |open| !open.is_empty()));
+    }
+
+    /// A stream whose bytes are counted.
+    pub fn counted<'s, 'c>(&'c self, stream: &'s TcpStream) -> CountedStream<'s, 'c> {
+        CountedStream::new(stream, self)
+    }
+
+    /// Counts bytes that came from a client.
+    pub(crate) fn note_read(&self, count: usize) {
+        self.bytes_read.fetch_add(count as u64, Ordering::Relaxed);
+    }
+
+    /// Counts bytes that went to a client.
+    pub(crate) fn note_written(&self, count: usize) {
+        self.bytes_written
+            .fetch_add(count as u64, Ordering::Relaxed);
+    }
+
+    /// How many bytes were read from streams that are counted.
+    pub fn bytes_read(&self) -> u64 {
+        self.bytes_read.load(Ordering::Relaxed)
+    }
+
+    /// How many bytes were written to them.
+    pub fn bytes_written(&self) -> u64 {
+        self.bytes_written.load(Ordering::Relaxed)
     }
 
     /// Whether all connections are to end.

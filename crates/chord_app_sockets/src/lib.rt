@@ -8,6 +8,7 @@
 
 mod clients;
 mod closing;
+mod counted;
 mod doors;
 mod ended;
 mod host;
@@ -17,12 +18,14 @@ mod patience;
 mod poll_habit;
 mod pollers;
 mod polling;
+mod process_files;
 mod setup;
 mod stop;
 mod until;
 
 pub use clients::Clients;
 pub use closing::close_slowly;
+pub use counted::CountedStream;
 pub use doors::{Door, Doors, Protocol};
 pub use ended::Ended;
 pub use host::Host;
@@ -31,6 +34,7 @@ pub use once_per_second::OncePerSecond;
 pub use patience::{PatientReader, PatientWriter, prepare};
 pub use pollers::Pollers;
 pub use polling::{Pollable, PollingReader};
+pub use process_files::ProcessFiles;
 pub use setup::{OperatorPort, ServerSetup, listen};
 pub use stop::Stop;
 pub use until::{ClientSeconds, Until};

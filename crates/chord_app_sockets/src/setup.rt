@@ -3,6 +3,7 @@ ghost use Rattle.std.specs.Prelude.{◌≡◌, IfErr};
 ghost use Rattle.std.specs.declared.io.ErrorKind.{ErrorKind};
 
 use crate::doors::Doors;
+use crate::process_files::ProcessFiles;
 use chord_app_plan::Plan;
 use chord_app_text::{Fault, Finish};
 use chord_live_types::Settings;
@@ -16,6 +17,8 @@ pub struct OperatorPort<'a> {
     pub listener: &'a TcpListener,
     /// The names of fields that operators send are hashed by these.
     pub keys: RandomState,
+    /// None where the system tells nothing of the process.
+    pub process: Option<&'a ProcessFiles>,
 }
 
 /// A plan, the settings of the ring, where clients and operators connect, and where to log how

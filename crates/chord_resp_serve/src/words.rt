@@ -44,6 +44,7 @@ pub fn answer_words<A: Asker>(
     match command_of(alloc, words) {
         Err(Denied::Memory) => Err(AllocError),
         Err(Denied::Refused(refusal)) => {
+            asker.refuse();
             let told = put_refusal(alloc, out, &refusal);
             drop(refusal);
             with_flow(told, Flow::GoesOn)

@@ -34,6 +34,9 @@ pub trait Asker {
         ensures answer { answers self.old (Retry number floor) result self.new }
         ensures fits { IsAnswer result };
 
+    /// Hears that a request is refused, so that it is not asked.
+    fn refuse(&self) {}
+
     /// A new request joins those asked, behind the others.
     ghost notes: { (a b : Self) (question : Question) (answer : Asked) → answers a question answer b → answer ≢ Memory → asked b ≡ asked_with question (asked a) };
 

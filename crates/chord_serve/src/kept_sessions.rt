@@ -100,6 +100,13 @@ impl<A> KeptSessions<A> {
         Ok(())
     }
 
+    /// Whether a session has been without a connection since that moment or before.
+    pub fn has_oldest(&self, until: u64) -> bool
+        ensures { result ≡ is_some (oldest_of until self.now) }
+    {
+        oldest_of(until, &self.kept).is_some()
+    }
+
     // Takes the session at this index.
     fn take_at(&mut self, place: usize) -> ClientSession<A>
         requires { place < length self.old }

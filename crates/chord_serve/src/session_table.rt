@@ -1,5 +1,5 @@
 //! The sessions of a server.
-ghost use Rattle.std.specs.Prelude.{◌≡◌, ◌<◌, ◌+◌, [], IfSome, length};
+ghost use Rattle.std.specs.Prelude.{◌≡◌, ◌<◌, ◌+◌, [], IfSome, is_some, length};
 ghost use Rattle.chord_serve.specs.Keeping.{oldest_of, bytes_kept};
 ghost use Rattle.chord_serve.specs.SessionTable.{held_at, connection_of, BeginsAs, ResumesAs, PartsAs, EndsAs, DropsAs};
 
@@ -147,6 +147,13 @@ impl<A> SessionTable<A> {
         if let Some(place) = held_at(token, &self.held) {
             self.held.remove(place);
         }
+    }
+
+    /// Whether [`SessionTable::drop_oldest`] would drop a session.
+    pub fn can_drop(&self, until: u64) -> bool
+        ensures { result ≡ is_some (oldest_of until self.now.kept) }
+    {
+        self.kept.has_oldest(until)
     }
 
     /// Drops the session that has been without a connection longest, if since the moment `until`

@@ -63,6 +63,7 @@ pub fn answer_one<A: Asker>(
     let number = wire.number;
     match session.accept(&wire) {
         Move::Refuse(code) => {
+            asker.refuse();
             let frame = write_fault(alloc, number, code)?;
             due.add(&frame)
         }

@@ -1,12 +1,12 @@
 //! The operator of a ring.
 ghost use Rattle.std.specs.Prelude.{};
-ghost use Rattle.chord_app_operator.specs.Questions.{Question, Sight, Health, Join, Leave, Crash, Rescue, Hold, ReadPairs, Stop, Answer, Seen, IsHealthy, Joined, BeganToLeave, HasCrashed, RescueBegan, Held, PairsRead, Stopping};
+ghost use Rattle.chord_app_operator.specs.Questions.{Question, Sight, Health, Join, Leave, Crash, Rescue, Hold, ReadPairs, Stop, Answer, Seen, HealthTold, Joined, BeganToLeave, HasCrashed, RescueBegan, Held, PairsRead, Stopping};
 
 use super::holder::Holder;
 use super::pairs::PairsPage;
 use super::refusals::{CrashRefusal, JoinRefusal, LeaveRefusal, RescueRefusal};
 use crate::request::{CrashRequest, JoinRequest, PairsRequest};
-use crate::sight::RingSight;
+use crate::sight::{HealthSight, RingSight};
 use chord_ident::Id;
 use std::alloc::{AllocError, Global};
 
@@ -19,9 +19,9 @@ pub trait Operator {
     fn sight(&mut self, alloc: Global) -> Result<RingSight, AllocError>
         ensures { answers self.old Sight (Seen result) self.new };
 
-    /// Whether a node is staying.
-    fn is_healthy(&mut self) -> bool
-        ensures { answers self.old Health (IsHealthy result) self.new };
+    /// Whether the server can serve.
+    fn health(&mut self) -> HealthSight
+        ensures { answers self.old Health (HealthTold result) self.new };
 
     /// Makes a node join, and tells its number.
     fn join(&mut self, request: JoinRequest) -> Result<u64, JoinRefusal>

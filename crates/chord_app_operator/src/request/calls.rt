@@ -40,6 +40,7 @@ pub enum OperatorCall {
     Ring,
     Metrics,
     Health,
+    Ready,
     Join(JoinRequest),
     /// The node with this number is to leave.
     Leave(u64),

@@ -45,6 +45,7 @@ fn plain(path: &str) -> Option<Resource>
         "/ring" => Some(Resource::Ring),
         "/metrics" => Some(Resource::Metrics),
         "/health" => Some(Resource::Health),
+        "/ready" => Some(Resource::Ready),
         "/nodes" => Some(Resource::Nodes),
         "/pairs" => Some(Resource::Pairs),
         "/stop" => Some(Resource::Stop),

@@ -123,6 +123,7 @@ impl Resource {
             Resource::Ring => Ok(OperatorCall::Ring),
             Resource::Metrics => Ok(OperatorCall::Metrics),
             Resource::Health => Ok(OperatorCall::Health),
+            Resource::Ready => Ok(OperatorCall::Ready),
             Resource::Nodes => join(alloc, body),
             Resource::Leave(node) => Ok(OperatorCall::Leave(node)),
             Resource::Crash(node) => crash(alloc, node, body),

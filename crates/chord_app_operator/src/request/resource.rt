@@ -16,6 +16,8 @@ pub enum Resource {
     Metrics,
     /// `/health`
     Health,
+    /// `/ready`
+    Ready,
     /// `/nodes`
     Nodes,
     /// `/nodes/N/leave`

@@ -22,6 +22,7 @@ header { display: flex; flex-wrap: wrap; align-items: baseline; gap: 2px 16px; }
 h1 { font-size: 20px; margin: 0; }
 h2 { font-size: 15px; margin: 12px 0 4px; }
 h2 span { font-weight: normal; color: var(--dim); }
+h2 span.bad { color: var(--bad); }
 p { margin: 0; }
 #state { color: var(--dim); }
 .gone #state, .bad { color: var(--bad); }
@@ -75,8 +76,8 @@ button:hover { border-color: currentColor; }
 <main>
 <section aria-label="The circle">
 <svg id="circle" viewBox="0 0 400 400" role="img" aria-label="The nodes and the segments that they hold, on the circle of identifiers"></svg>
-<h2>Requests a second <span id="rate"></span></h2>
-<svg id="strip" viewBox="0 0 400 66" role="img" aria-label="Requests a second over the last minute"></svg>
+<h2>Answers a second <span id="rate"></span> <span id="missed" class="bad"></span></h2>
+<svg id="strip" viewBox="0 0 400 66" role="img" aria-label="Answers a second over the last minute, and in red those that say that the ring gave none"></svg>
 <p class="note legend" id="legend"></p>
 <p class="note">Identifiers rise clockwise from the top. An arc is a held segment in its holder's colour, the thicker the more of the pairs its holder has; dotted where that crashed, and nobody answers for it. A thin line leads to the first successor. A dashed arrow is a handover under way. Each node is looked at in a moment of its own.</p>
 </section>
@@ -178,6 +179,17 @@ function mark(phase, x, y, size) {
   if (phase === "gone") return make("svg:circle", { cx: x, cy: y, r: size - 1, fill: "var(--bg)", stroke: fill, "stroke-width": 2 });
   if (phase === "leaving") return make("svg:path", { d: `M${x} ${y - size - 2} l${size + 2} ${size + 2} l${-size - 2} ${size + 2} l${-size - 2} ${-size - 2} z`, fill, stroke: "var(--bg)", "stroke-width": 1.5 });
   return make("svg:circle", { cx: x, cy: y, r: size, fill, stroke: "var(--bg)", "stroke-width": 1.5 });
+}
+
+// How many requests of clients were answered, and how many of these were told that the ring gave
+// no answer.
+function answered(ring) {
+  const all = { count: 0, missed: 0 };
+  for (const answers of [ring.answers.frames, ring.answers.redis]) {
+    all.count += answers.reply + answers.full + answers.noanswer + answers.memory + answers.refused;
+    all.missed += answers.noanswer;
+  }
+  return all;
 }
 
 function asked(node) {
@@ -338,21 +350,27 @@ function drawTable(ring) {
 
 function drawStrip(now) {
   const top = Math.max(1, ...rates.map((look) => look.rate));
-  const line = rates.map((look) => `${(400 - (400 * (now - look.time)) / MINUTE).toFixed(1)},${(48 - (44 * look.rate) / top).toFixed(1)}`);
+  const lineOf = (value) => rates.map((look) => `${(400 - (400 * (now - look.time)) / MINUTE).toFixed(1)},${(48 - (44 * value(look)) / top).toFixed(1)}`);
+  const line = lineOf((look) => look.rate);
   const label = (x, anchor, text) => make("svg:text", { x, y: 62, fill: "var(--dim)", "font-size": 11, "text-anchor": anchor }, text);
   const parts = [make("svg:path", { d: "M0 48 H400", stroke: "var(--line)" }), label(0, "start", "a minute ago"), label(400, "end", "now")];
   if (line.length > 1) {
     const ends = [line[0], line[line.length - 1]].map((place) => place.split(",")[0]);
     parts.push(make("svg:path", { d: `M${ends[0]},48 L${line.join(" L")} L${ends[1]},48 z`, fill: "var(--blue)", opacity: 0.18 }));
     parts.push(make("svg:path", { d: `M${line.join(" L")}`, fill: "none", stroke: "var(--blue)", "stroke-width": 1.5, "stroke-linejoin": "round" }));
+    const missed = rates[rates.length - 1].missed;
+    if (rates.some((look) => look.missed > 0)) parts.push(make("svg:path", { d: `M${lineOf((look) => look.missed).join(" L")}`, fill: "none", stroke: "var(--bad)", "stroke-width": 1.5, "stroke-linejoin": "round" }));
     say(byId("rate"), `${shown(rates[rates.length - 1].rate)} now, ${shown(top)} at most`);
+    say(byId("missed"), missed > 0 ? `${shown(Math.ceil(missed))} without a reply` : "");
   }
   fill(byId("strip"), parts);
 }
 
-// The requests a second since the last look. A server that was started anew begins anew here.
+// The answers a second, and the requests a second at each node, since the last look. A server that
+// was started anew begins anew here.
 function measure(ring) {
   const counts = new Map(ring.nodes.map((node) => [node.node, asked(node)]));
+  const answers = answered(ring);
   if (last && ring.uptime_ms < last.time) {
     last = null;
     rates = [];
@@ -362,15 +380,14 @@ function measure(ring) {
   nodeRates = new Map();
   if (last && ring.uptime_ms > last.time) {
     const seconds = (ring.uptime_ms - last.time) / 1000;
-    let all = 0;
     for (const [node, count] of counts) {
-      const rate = Math.max(0, count - (last.counts.get(node) || 0)) / seconds;
-      nodeRates.set(node, rate);
-      all += rate;
+      nodeRates.set(node, Math.max(0, count - (last.counts.get(node) || 0)) / seconds);
     }
-    rates = rates.concat({ time: ring.uptime_ms, rate: all }).filter((look) => look.time > ring.uptime_ms - MINUTE);
+    const rate = (answers.count - last.answers.count) / seconds;
+    const missed = (answers.missed - last.answers.missed) / seconds;
+    rates = rates.concat({ time: ring.uptime_ms, rate, missed }).filter((look) => look.time > ring.uptime_ms - MINUTE);
   }
-  last = { time: ring.uptime_ms, counts };
+  last = { time: ring.uptime_ms, counts, answers };
 }
 
 function answer(text, bad) {

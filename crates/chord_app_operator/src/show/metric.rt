@@ -1,5 +1,6 @@
 //! The table of metrics.
 
+use super::answer_count::AnswerCount;
 use super::node_count::NodeCount;
 use super::ring_count::RingCount;
 use chord_sight::Phase;
@@ -12,6 +13,8 @@ pub enum Series {
     Node(&'static str, NodeCount),
     /// One line.
     Ring(&'static str, RingCount),
+    /// The lines of a histogram of how long requests took.
+    Times,
 }
 
 /// A metric.
@@ -19,13 +22,13 @@ pub enum Series {
 pub struct Metric {
     pub name: &'static str,
     pub help: &'static str,
-    /// `gauge`, or `counter` for what only grows.
+    /// `gauge`, `counter` for what only grows, or `histogram`.
     pub kind: &'static str,
     pub series: &'static [Series],
 }
 
 /// All metrics, in their order.
-pub const METRICS: [Metric; 13] = [
+pub const METRICS: [Metric; 22] = [
     Metric {
         name: "chord_nodes",
         help: "Nodes by phase.",
@@ -102,6 +105,12 @@ pub const METRICS: [Metric; 13] = [
         series: &[Series::Ring("", RingCount::CallersOpen)],
     },
     Metric {
+        name: "chord_callers_pending",
+        help: "Callers that wait for an answer of the ring.",
+        kind: "gauge",
+        series: &[Series::Ring("", RingCount::CallersPending)],
+    },
+    Metric {
         name: "chord_connections_total",
         help: "Connections that ended, by how.",
         kind: "counter",
@@ -133,5 +142,97 @@ pub const METRICS: [Metric; 13] = [
             Series::Ring("{kind=\"dropped\"}", RingCount::Dropped),
             Series::Ring("{kind=\"refused\"}", RingCount::Refused),
         ],
+    },
+    Metric {
+        name: "chord_answers_total",
+        help: "Answers to requests of clients, by what was answered.",
+        kind: "counter",
+        series: &[
+            Series::Ring(
+                "{protocol=\"frames\",answer=\"reply\"}",
+                RingCount::Frames(AnswerCount::Reply),
+            ),
+            Series::Ring(
+                "{protocol=\"frames\",answer=\"full\"}",
+                RingCount::Frames(AnswerCount::Full),
+            ),
+            Series::Ring(
+                "{protocol=\"frames\",answer=\"no_answer\"}",
+                RingCount::Frames(AnswerCount::NoAnswer),
+            ),
+            Series::Ring(
+                "{protocol=\"frames\",answer=\"memory\"}",
+                RingCount::Frames(AnswerCount::Memory),
+            ),
+            Series::Ring(
+                "{protocol=\"frames\",answer=\"refused\"}",
+                RingCount::Frames(AnswerCount::Refused),
+            ),
+            Series::Ring(
+                "{protocol=\"redis\",answer=\"reply\"}",
+                RingCount::Redis(AnswerCount::Reply),
+            ),
+            Series::Ring(
+                "{protocol=\"redis\",answer=\"full\"}",
+                RingCount::Redis(AnswerCount::Full),
+            ),
+            Series::Ring(
+                "{protocol=\"redis\",answer=\"no_answer\"}",
+                RingCount::Redis(AnswerCount::NoAnswer),
+            ),
+            Series::Ring(
+                "{protocol=\"redis\",answer=\"memory\"}",
+                RingCount::Redis(AnswerCount::Memory),
+            ),
+            Series::Ring(
+                "{protocol=\"redis\",answer=\"refused\"}",
+                RingCount::Redis(AnswerCount::Refused),
+            ),
+        ],
+    },
+    Metric {
+        name: "chord_request_seconds",
+        help: "How long the ring took to answer a request.",
+        kind: "histogram",
+        series: &[Series::Times],
+    },
+    Metric {
+        name: "chord_forwards_total",
+        help: "Requests that nodes passed on to other nodes.",
+        kind: "counter",
+        series: &[Series::Ring("", RingCount::Forwards)],
+    },
+    Metric {
+        name: "chord_bytes_total",
+        help: "Bytes that connections of clients carried.",
+        kind: "counter",
+        series: &[
+            Series::Ring("{direction=\"read\"}", RingCount::BytesRead),
+            Series::Ring("{direction=\"written\"}", RingCount::BytesWritten),
+        ],
+    },
+    Metric {
+        name: "chord_build_info",
+        help: "1, with the version of the program.",
+        kind: "gauge",
+        series: &[Series::Ring("{version=\"0.1.0\"}", RingCount::One)],
+    },
+    Metric {
+        name: "chord_uptime_seconds",
+        help: "How long the server has run.",
+        kind: "gauge",
+        series: &[Series::Ring("", RingCount::Uptime)],
+    },
+    Metric {
+        name: "process_resident_memory_bytes",
+        help: "Memory that the process has.",
+        kind: "gauge",
+        series: &[Series::Ring("", RingCount::Resident)],
+    },
+    Metric {
+        name: "process_cpu_seconds_total",
+        help: "Time of a processor that the process took.",
+        kind: "counter",
+        series: &[Series::Ring("", RingCount::Processor)],
     },
 ];

@@ -1,21 +1,22 @@
 //! A ring in Prometheus's text format.
 ghost use Rattle.std.specs.Prelude.{◌≡◌, ◌++◌, string_bytes, IfOk, OnOk};
 ghost use Rattle.std.specs.List.{flat_map};
-ghost use Rattle.chord_app_operator.specs.Metrics.{value_line, node_line, ring_line, comment_line, series_lines, lines_of, text_of, metrics_text};
+ghost use Rattle.chord_app_operator.specs.Metrics.{value_line, node_line, ring_line, bound_label, within_line, whole_label, whole_line, times_lines, comment_line, lines_of, text_of, metrics_text};
 
 use super::metric::{METRICS, Metric, Series};
 use super::node_count::NodeCount;
-use crate::sight::{RingSight, StoredNode};
+use crate::sight::{RequestTimes, RingSight, StoredNode, TimeCount};
 use itoa::Buffer;
 use std::alloc::{AllocError, Global};
 
-// A number and the end of its line.
-fn add_value(text: &mut String, value: u64) -> Result<(), AllocError>
-    ensures { OnOk result (string_bytes text.new ≡ string_bytes text.old ++ value_line value) }
+// A number, what stands behind it, and the end of its line.
+fn add_value(text: &mut String, value: u64, scale: &str) -> Result<(), AllocError>
+    ensures { OnOk result (string_bytes text.new ≡ string_bytes text.old ++ value_line value scale.now) }
 {
     let mut buffer = Buffer::new();
     text.push_str(" ")?;
     text.push_str(buffer.format(value))?;
+    text.push_str(scale)?;
     text.push_str("\n")
 }
 
@@ -35,7 +36,7 @@ fn add_node_line(
     text.push_str("\"")?;
     text.push_str(labels)?;
     text.push_str("}")?;
-    add_value(text, count.of(&node.sight))
+    add_value(text, count.of(&node.sight), "")
 }
 
 fn add_node_lines(
@@ -54,12 +55,73 @@ fn add_node_lines(
 }
 
 // The line of a number of the ring.
-fn add_ring_line(text: &mut String, name: &str, labels: &str, value: u64) -> Result<(), AllocError>
-    ensures { OnOk result (string_bytes text.new ≡ string_bytes text.old ++ ring_line name.now labels.now value) }
+fn add_ring_line(
+    text: &mut String,
+    name: &str,
+    labels: &str,
+    value: u64,
+    scale: &str,
+) -> Result<(), AllocError>
+    ensures { OnOk result (string_bytes text.new ≡ string_bytes text.old ++ ring_line name.now labels.now value scale.now) }
 {
     text.push_str(name)?;
     text.push_str(labels)?;
-    add_value(text, value)
+    add_value(text, value, scale)
+}
+
+// A bound in millionths of a second, as the label of a line.
+fn add_bound(text: &mut String, upto: u64) -> Result<(), AllocError>
+    ensures { OnOk result (string_bytes text.new ≡ string_bytes text.old ++ bound_label upto) }
+{
+    let mut buffer = Buffer::new();
+    text.push_str("{le=\"")?;
+    text.push_str(buffer.format(upto))?;
+    text.push_str("e-6\"}")
+}
+
+// How many requests took at most a time.
+fn add_within(text: &mut String, name: &str, within: &TimeCount) -> Result<(), AllocError>
+    ensures { OnOk result (string_bytes text.new ≡ string_bytes text.old ++ within_line name.now within.now) }
+{
+    text.push_str(name)?;
+    text.push_str("_bucket")?;
+    add_bound(text, within.upto)?;
+    add_value(text, within.count, "")
+}
+
+fn add_all_within(text: &mut String, name: &str, all: &[TimeCount]) -> Result<(), AllocError>
+    ensures { OnOk result (string_bytes text.new ≡ string_bytes text.old ++ flat_map (within_line name.now) all.now) }
+{
+    for within in all {
+        add_within(text, name, within)?;
+    }
+    Ok(())
+}
+
+// The label of all requests, however long they took.
+fn add_whole_label(text: &mut String) -> Result<(), AllocError>
+    ensures { OnOk result (string_bytes text.new ≡ string_bytes text.old ++ whole_label) }
+{
+    text.push_str("{le=\"+Inf\"}")
+}
+
+// How many requests there were.
+fn add_whole(text: &mut String, name: &str, count: u64) -> Result<(), AllocError>
+    ensures { OnOk result (string_bytes text.new ≡ string_bytes text.old ++ whole_line name.now count) }
+{
+    text.push_str(name)?;
+    text.push_str("_bucket")?;
+    add_whole_label(text)?;
+    add_value(text, count, "")
+}
+
+fn add_times(text: &mut String, name: &str, times: &RequestTimes) -> Result<(), AllocError>
+    ensures { OnOk result (string_bytes text.new ≡ string_bytes text.old ++ times_lines name.now times.now) }
+{
+    add_all_within(text, name, &times.within)?;
+    add_whole(text, name, times.count)?;
+    add_ring_line(text, name, "_sum", times.sum, "e-6")?;
+    add_ring_line(text, name, "_count", times.count, "")
 }
 
 fn add_series(
@@ -72,7 +134,10 @@ fn add_series(
 {
     match series {
         Series::Node(labels, count) => add_node_lines(text, name, labels, *count, &ring.nodes),
-        Series::Ring(labels, count) => add_ring_line(text, name, labels, count.of(ring)),
+        Series::Ring(labels, count) => {
+            add_ring_line(text, name, labels, count.of(ring), count.scale())
+        }
+        Series::Times => add_times(text, name, &ring.times),
     }
 }
 

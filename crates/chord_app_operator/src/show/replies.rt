@@ -1,8 +1,8 @@
 //! Answers as responses.
-ghost use Rattle.std.specs.Prelude.{◌≡◌, codes, false, string_bytes, IsTrue, IfOk, OnOk, OnErr};
+ghost use Rattle.std.specs.Prelude.{◌≡◌, codes, false, string_bytes, option_map, IsTrue, IfOk, OnOk, OnErr};
 ghost use Rattle.http_header.specs.FieldValue.{is_visible_text};
 ghost use Rattle.http_server.specs.Response.{IsBlank, IsResponse, fields_of};
-ghost use Rattle.chord_app_operator.specs.Replies.{typed, type_in, body_in, text_type, metrics_type, IsPage, IsJson, IsHealth, IsRing, IsNode, IsRefused, IsPairs, IsFull};
+ghost use Rattle.chord_app_operator.specs.Replies.{typed, type_in, body_in, text_type, metrics_type, IsPage, IsJson, IsState, IsRing, IsNode, IsRefused, IsPairs, IsFull};
 ghost use Rattle.serde_json.specs.Written.{compact_text, has_float};
 ghost use Rattle.serde_json.specs.View.{view};
 ghost use Rattle.chord_app_operator.specs.Metrics.{metrics_text};
@@ -133,26 +133,24 @@ pub(crate) fn show_ring(
     }
 }
 
-/// Whether a node stays.
-pub(crate) fn show_health(is_healthy: bool, response: &mut Response) -> Result<(), AllocError>
+/// That the server can serve, or the reason why not.
+pub(crate) fn show_state(
+    reason: Option<&'static str>,
+    response: &mut Response,
+) -> Result<(), AllocError>
     requires { IsBlank response.old }
-    ensures { OnOk result (IsHealth is_healthy response.new) }
+    ensures { OnOk result (IsState (option_map (λ text. text.now) reason.entry) response.new) }
 {
-    if is_healthy {
-        fill(
-            response,
-            StatusCode::OK,
-            "text/plain; charset=utf-8",
-            Bytes::from_static(b"ok\n"),
-        )
-    } else {
-        fill(
-            response,
-            StatusCode::SERVICE_UNAVAILABLE,
-            "text/plain; charset=utf-8",
-            Bytes::from_static(b"no node is staying\n"),
-        )
-    }
+    let (status, text) = match reason {
+        None => (StatusCode::OK, "ok\n"),
+        Some(reason) => (StatusCode::SERVICE_UNAVAILABLE, reason),
+    };
+    fill(
+        response,
+        status,
+        "text/plain; charset=utf-8",
+        Bytes::from_static(text.as_bytes()),
+    )
 }
 
 // The number of a node.

@@ -1,8 +1,9 @@
 //! The numbers of a ring and its server.
 ghost use Rattle.std.specs.Prelude.{◌≡◌};
 ghost use Rattle.std.specs.List.{count_by};
-ghost use Rattle.chord_app_operator.specs.Metrics.{is_in, ring_count};
+ghost use Rattle.chord_app_operator.specs.Metrics.{forwards_of, is_in, ring_count, scale};
 
+use super::answer_count::AnswerCount;
 use crate::sight::{RingSight, StoredNode};
 use chord_sight::Phase;
 
@@ -15,6 +16,7 @@ pub enum RingCount {
     Premise,
     Connections,
     CallersOpen,
+    CallersPending,
     Ended,
     Truncated,
     Malformed,
@@ -29,6 +31,21 @@ pub enum RingCount {
     Resumed,
     Dropped,
     Refused,
+    /// Of the answers in frames.
+    Frames(AnswerCount),
+    /// Of the answers in Redis's protocol.
+    Redis(AnswerCount),
+    /// How often nodes passed requests on, all together.
+    Forwards,
+    BytesRead,
+    BytesWritten,
+    /// 1, which carries labels.
+    One,
+    /// In milliseconds.
+    Uptime,
+    Resident,
+    /// In milliseconds.
+    Processor,
 }
 
 // How many nodes are in the phase.
@@ -44,6 +61,17 @@ fn count_in(phase: Phase, nodes: &[StoredNode]) -> u64
     count
 }
 
+// How often the nodes passed requests on; a sum that does not fit is 2^64 - 1.
+fn forwards_of(nodes: &[StoredNode]) -> u64
+    ensures { result ≡ forwards_of nodes.now }
+{
+    let mut all = 0u64;
+    for node in nodes {
+        all = all.saturating_add(node.sight.counts.asks.forwarded);
+    }
+    all
+}
+
 impl RingCount {
     /// The number.
     pub fn of(self, ring: &RingSight) -> u64
@@ -54,6 +82,7 @@ impl RingCount {
             RingCount::Premise => u64::from(ring.premise),
             RingCount::Connections => ring.connections,
             RingCount::CallersOpen => ring.callers.open,
+            RingCount::CallersPending => ring.callers.pending,
             RingCount::Ended => ring.ends.ended,
             RingCount::Truncated => ring.ends.truncated,
             RingCount::Malformed => ring.ends.malformed,
@@ -68,6 +97,25 @@ impl RingCount {
             RingCount::Resumed => ring.sessions.resumed,
             RingCount::Dropped => ring.sessions.dropped,
             RingCount::Refused => ring.sessions.refused,
+            RingCount::Frames(count) => count.of(&ring.answers.frames),
+            RingCount::Redis(count) => count.of(&ring.answers.redis),
+            RingCount::Forwards => forwards_of(&ring.nodes),
+            RingCount::BytesRead => ring.bytes.read,
+            RingCount::BytesWritten => ring.bytes.written,
+            RingCount::One => 1,
+            RingCount::Uptime => ring.uptime_ms,
+            RingCount::Resident => ring.process.resident,
+            RingCount::Processor => ring.process.processor_ms,
+        }
+    }
+
+    /// What stands behind the number so that it is in seconds.
+    pub(super) fn scale(self) -> &'static str
+        ensures { result.now ≡ scale self }
+    {
+        match self {
+            RingCount::Uptime | RingCount::Processor => "e-3",
+            _ => "",
         }
     }
 }

@@ -2,11 +2,13 @@
 ghost use Rattle.std.specs.Prelude.{◌≡◌, string_bytes, IfOk, OnOk};
 ghost use Rattle.serde_json.specs.Written.{compact_text};
 ghost use Rattle.serde_json.specs.View.{view, members_view};
-ghost use Rattle.chord_app_operator.specs.Json.{with_members, span_members, server_members, name_members, link_members, held_members, done_members, segment_data, outbox_data, asks_data, handovers_data, callers_data, ends_data, sessions_data, node_data, ring_data};
+ghost use Rattle.chord_app_operator.specs.Json.{with_members, span_members, server_members, name_members, link_members, held_members, done_members, segment_data, outbox_data, asks_data, handovers_data, callers_data, answers_data, protocols_data, ends_data, sessions_data, node_data, ring_data};
 
 use super::json::{ToJson, array, optional};
 use super::members::{counts_value, put_counts, put_id, put_word};
-use crate::sight::{CallerCounts, EndCounts, RingSight, SessionCounts, StoredNode};
+use crate::sight::{
+    AnswerCounts, CallerCounts, EndCounts, ProtocolAnswers, RingSight, SessionCounts, StoredNode,
+};
 use chord_ident::Span;
 use chord_sight::{AskCounts, HandoverCounts, NodeSight, OutboxSight, SegmentSight};
 use serde_json::{Map, Value, put};
@@ -112,7 +114,38 @@ impl ToJson for CallerCounts {
     ghost data_of = { callers_data };
 
     fn to_json(&self, alloc: Global) -> Result<Value, AllocError> {
-        counts_value(alloc, &[("open", self.open), ("all", self.all)])
+        let counts = [
+            ("open", self.open),
+            ("all", self.all),
+            ("pending", self.pending),
+        ];
+        counts_value(alloc, &counts)
+    }
+}
+
+impl ToJson for AnswerCounts {
+    ghost data_of = { answers_data };
+
+    fn to_json(&self, alloc: Global) -> Result<Value, AllocError> {
+        let counts = [
+            ("reply", self.reply),
+            ("full", self.full),
+            ("noanswer", self.no_answer),
+            ("memory", self.memory),
+            ("refused", self.refused),
+        ];
+        counts_value(alloc, &counts)
+    }
+}
+
+impl ToJson for ProtocolAnswers {
+    ghost data_of = { protocols_data };
+
+    fn to_json(&self, alloc: Global) -> Result<Value, AllocError> {
+        let mut members = Map::new(alloc);
+        put(&mut members, alloc, "frames", self.frames.to_json(alloc)?)?;
+        put(&mut members, alloc, "redis", self.redis.to_json(alloc)?)?;
+        Ok(Value::Object(members))
     }
 }
 
@@ -207,6 +240,7 @@ fn put_server(
     put_counts(alloc, &[("connections", ring.connections)], members)?;
     put(members, alloc, "ends", ring.ends.to_json(alloc)?)?;
     put(members, alloc, "sessions", ring.sessions.to_json(alloc)?)?;
+    put(members, alloc, "answers", ring.answers.to_json(alloc)?)?;
     put_counts(alloc, &[("uptime_ms", ring.uptime_ms)], members)
 }
 

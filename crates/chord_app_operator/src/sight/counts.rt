@@ -7,4 +7,6 @@ pub struct CallerCounts {
     pub open: u64,
     /// How many may be open at once.
     pub all: u64,
+    /// How many wait for an answer of the ring now.
+    pub pending: u64,
 }

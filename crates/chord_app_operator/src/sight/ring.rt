@@ -1,8 +1,11 @@
 //! What an operator sees of a ring.
 
+use super::answers::ProtocolAnswers;
 use super::counts::CallerCounts;
 use super::node::StoredNode;
-use super::traffic::{EndCounts, SessionCounts};
+use super::process::ProcessSight;
+use super::times::RequestTimes;
+use super::traffic::{ByteCounts, EndCounts, SessionCounts};
 
 /// A look at a ring: one at each node, one after another.
 #[derive(Debug, Drop)]
@@ -19,6 +22,10 @@ pub struct RingSight {
     pub connections: u64,
     pub ends: EndCounts,
     pub sessions: SessionCounts,
+    pub answers: ProtocolAnswers,
+    pub times: RequestTimes,
+    pub bytes: ByteCounts,
+    pub process: ProcessSight,
     /// How long the server has run, in milliseconds.
     pub uptime_ms: u64,
     pub nodes: Vec<StoredNode>,

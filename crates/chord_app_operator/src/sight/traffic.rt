@@ -37,3 +37,12 @@ pub struct SessionCounts {
     /// Connections that were refused a session.
     pub refused: u64,
 }
+
+/// How many bytes the connections of clients carried.
+#[derive(Clone, Copy, Debug, Default, PartialEq, Eq)]
+pub struct ByteCounts {
+    /// From clients.
+    pub read: u64,
+    /// To clients.
+    pub written: u64,
+}

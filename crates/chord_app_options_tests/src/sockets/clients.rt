@@ -3,6 +3,7 @@
 use super::closing::connect;
 use chord_app_sockets::Clients;
 use std::alloc::{AllocError, Global};
+use std::io::{Read, Write};
 use std::net::{Net, TcpListener, TcpStream};
 use std::sync::{Arc, Wait};
 use std::thread::Threads;
@@ -118,4 +119,33 @@ fn left_open<R: Threads + Wait + Clock + Net<Listener = TcpListener, Stream = Tc
 fn all_connections_are_waited_for(rt: HostRuntime) {
     let left = left_open(&rt, rt.alloc()).map_err(|error| error.kind());
     assert!(rt; left == Ok(0), "each was removed: {left:?}");
+}
+
+/// Writes two bytes to a client and reads three of its bytes, by a stream that is counted. Gives the
+/// bytes that came, and how many were counted as read and as written.
+fn carried<R: Net<Listener = TcpListener, Stream = TcpStream>>(
+    rt: &R,
+    alloc: Global,
+) -> io::Result<([u8; 3], [u8; 2], u64, u64)> {
+    let pair = connect(rt)?;
+    let clients = Clients::new(alloc);
+    let mut counted = clients.counted(&pair.server);
+    let mut came = [0u8; 3];
+    let mut went = [0u8; 2];
+    let mut client = &pair.client;
+    client.write_all(b"abc")?;
+    counted.read_exact(&mut came)?;
+    counted.write_all(b"xy")?;
+    counted.flush()?;
+    client.read_exact(&mut went)?;
+    let counts = (clients.bytes_read(), clients.bytes_written());
+    drop(clients);
+    drop(pair);
+    Ok((came, went, counts.0, counts.1))
+}
+
+#[test]
+fn bytes_of_a_client_are_counted(rt: HostRuntime) {
+    let seen = carried(&rt, rt.alloc()).map_err(|error| error.kind());
+    assert!(rt; seen == Ok((*b"abc", *b"xy", 3, 2)), "{seen:?}");
 }

@@ -5,8 +5,8 @@ use super::operators::RingValue;
 use super::sights::{RING_JSON, RING_METRICS, RING_TABLE, ring};
 use crate::checks::check;
 use chord_app_operator::{
-    Holder, PairsRequest, ToJson, array, holder_value, id_text, metrics_text, optional, ring_table,
-    ring_text,
+    HealthSight, Holder, PairsRequest, ToJson, array, holder_value, id_text, metrics_text,
+    optional, ring_table, ring_text,
 };
 use chord_ident::Id;
 use serde_json::Value;
@@ -80,27 +80,80 @@ fn metrics_are_those_of_the_ring(rt: HostRuntime) -> Result<(), Fail> {
     Ok(())
 }
 
-#[test]
-fn a_ring_with_a_staying_node_is_healthy(rt: HostRuntime) -> Result<(), Fail> {
-    let seen = ask(&rt, RingValue::new(rt.alloc()), "GET /health", "")?;
-    check!(&rt;
-        seen.got_text(
-            "HTTP/1.1 200 OK\r\ncontent-type: text/plain; charset=utf-8\r\ncache-control: no-store\r\ncontent-length: 3\r\n\r\nok\n"
-        )
-    );
-    check!(&rt; seen.asked(b"h"));
-    drop(seen);
-    Ok(())
-}
+/// A server that serves.
+const HEALTH: HealthSight = HealthSight {
+    has_node: true,
+    has_caller: true,
+    is_stopped: false,
+};
+
+/// A request about a server's health, what it tells, and how the answer ends.
+const STATES: [(&str, HealthSight, bool, &str); 7] = [
+    ("GET /health", HEALTH, true, "\r\n\r\nok\n"),
+    ("GET /ready", HEALTH, true, "\r\n\r\nok\n"),
+    (
+        "GET /health",
+        HealthSight {
+            has_caller: false,
+            ..HEALTH
+        },
+        true,
+        "\r\n\r\nok\n",
+    ),
+    (
+        "GET /ready",
+        HealthSight {
+            has_caller: false,
+            ..HEALTH
+        },
+        false,
+        "\r\n\r\nno caller is free\n",
+    ),
+    (
+        "GET /health",
+        HealthSight {
+            has_node: false,
+            ..HEALTH
+        },
+        false,
+        "\r\n\r\nno node is staying\n",
+    ),
+    (
+        "GET /ready",
+        HealthSight {
+            has_node: false,
+            ..HEALTH
+        },
+        false,
+        "\r\n\r\nno node is staying\n",
+    ),
+    (
+        "GET /health",
+        HealthSight {
+            is_stopped: true,
+            ..HEALTH
+        },
+        false,
+        "\r\n\r\nthe server stops\n",
+    ),
+];
 
 #[test]
-fn a_ring_without_a_staying_node_is_not_healthy(rt: HostRuntime) -> Result<(), Fail> {
-    let mut operator = RingValue::new(rt.alloc());
-    operator.is_healthy = false;
-    let seen = ask(&rt, operator, "GET /health", "")?;
-    check!(&rt; seen.begins("HTTP/1.1 503 Service Unavailable\r\n"));
-    check!(&rt; seen.asked(b"h"));
-    drop(seen);
+fn health_and_readiness_are_told(rt: HostRuntime) -> Result<(), Fail> {
+    for (line, health, is_good, end) in STATES {
+        let mut operator = RingValue::new(rt.alloc());
+        operator.health = health;
+        let seen = ask(&rt, operator, line, "")?;
+        let begin = if is_good {
+            "HTTP/1.1 200 OK\r\n"
+        } else {
+            "HTTP/1.1 503 Service Unavailable\r\n"
+        };
+        check!(&rt; seen.begins(begin));
+        check!(&rt; seen.ends(end));
+        check!(&rt; seen.asked(b"h"));
+        drop(seen);
+    }
     Ok(())
 }
 

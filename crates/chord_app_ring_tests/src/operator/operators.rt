@@ -2,8 +2,8 @@
 
 use super::sights::ring;
 use chord_app_operator::{
-    CrashRefusal, CrashRequest, Holder, JoinRefusal, JoinRequest, LeaveRefusal, Operator,
-    PageState, Pair, PairsPage, PairsRequest, RescueRefusal, RingSight,
+    CrashRefusal, CrashRequest, HealthSight, Holder, JoinRefusal, JoinRequest, LeaveRefusal,
+    Operator, PageState, Pair, PairsPage, PairsRequest, RescueRefusal, RingSight,
 };
 use chord_ident::Id;
 use std::alloc::{AllocError, Global};
@@ -19,7 +19,7 @@ pub struct RingValue {
     pub rescued: Option<u64>,
     pub pairs: Option<PairsRequest>,
     pub held: Option<Id>,
-    pub is_healthy: bool,
+    pub health: HealthSight,
     pub joined: Result<u64, JoinRefusal>,
     pub leaves: Result<(), LeaveRefusal>,
     pub crashes: Result<(), CrashRefusal>,
@@ -39,7 +39,11 @@ impl RingValue {
             rescued: None,
             pairs: None,
             held: None,
-            is_healthy: true,
+            health: HealthSight {
+                has_node: true,
+                has_caller: true,
+                is_stopped: false,
+            },
             joined: Ok(4),
             leaves: Ok(()),
             crashes: Ok(()),
@@ -84,9 +88,9 @@ impl Operator for RingValue {
         ring(alloc)
     }
 
-    fn is_healthy(&mut self) -> bool {
+    fn health(&mut self) -> HealthSight {
         self.note(b'h');
-        self.is_healthy
+        self.health
     }
 
     fn join(&mut self, request: JoinRequest) -> Result<u64, JoinRefusal> {

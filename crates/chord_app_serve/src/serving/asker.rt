@@ -5,6 +5,7 @@ ghost use Rattle.chord_app_serve.specs.Asked.{asked_since, first_asker};
 ghost use Rattle.chord_serve.specs.Question.{IsAnswer};
 
 use crate::serving::idle::IdleCaller;
+use crate::serving::request_tally::ClientTally;
 use chord_live::RingClient;
 use chord_live_types::{AskFault, RetryFault, WaitFault};
 use chord_map::{Reply, Request};
@@ -25,6 +26,7 @@ pub struct RingAsker<'a, J: Naming, S: EntryStore, R> {
     via: u64,
     /// How many requests the caller had submitted when the session began.
     before: u64,
+    tally: ClientTally<'a>,
 }
 
 impl<'a, J: Naming, S: EntryStore, R> Model for RingAsker<'a, J, S, R> {
@@ -39,8 +41,13 @@ impl<'a, J: Naming, S: EntryStore, R> Model for RingAsker<'a, J, S, R> {
 }
 
 impl<'a, J: Naming, S: EntryStore, R: Wait + Clock> RingAsker<'a, J, S, R> {
-    /// Asks at the node `via`. The session begins with no request.
-    pub fn new(rt: &'a R, idle: IdleCaller<'a, J, S>, via: u64) -> RingAsker<'a, J, S, R>
+    /// Asks at the node `via`, and counts the requests. The session begins with no request.
+    pub fn new(
+        rt: &'a R,
+        idle: IdleCaller<'a, J, S>,
+        via: u64,
+        tally: ClientTally<'a>,
+    ) -> RingAsker<'a, J, S, R>
         ensures first { result ≡ first_asker idle.entry.caller via }
         ensures fresh { asked_since result.before result.caller ≡ [] }
     {
@@ -51,6 +58,7 @@ impl<'a, J: Naming, S: EntryStore, R: Wait + Clock> RingAsker<'a, J, S, R> {
             caller,
             via,
             before,
+            tally,
         }
     }
 
@@ -134,21 +142,33 @@ impl<'a, J: Naming, S: EntryStore, R: Wait + Clock> Asker for RingAsker<'a, J, S
     /// Asks a request, by a call of the caller.
     fn ask(&mut self, request: &Request, floor: u64) -> Asked {
         settle(&mut self.caller, self.before, floor);
+        let began = self.tally.begin(self.rt);
         let Ok(copy) = request.try_copy() else {
+            self.tally.end(self.rt, began, &Asked::Memory);
             return Asked::Memory;
         };
         let ended = self.caller.call(self.rt, self.via, copy);
-        answer_of_call(ended)
+        let answer = answer_of_call(ended);
+        self.tally.end(self.rt, began, &answer);
+        answer
     }
 
     /// Sends the request of this number again; the caller's number is greater by `before`.
     fn retry(&mut self, number: u64, floor: u64) -> Asked {
         settle(&mut self.caller, self.before, floor);
+        let began = self.tally.begin(self.rt);
         let Some(submitted) = self.before.checked_add(number) else {
+            self.tally.end(self.rt, began, &Asked::NoAnswer);
             return Asked::NoAnswer;
         };
         let ended = self.caller.call_again(self.rt, self.via, submitted);
-        answer_of_retry(ended)
+        let answer = answer_of_retry(ended);
+        self.tally.end(self.rt, began, &answer);
+        answer
+    }
+
+    fn refuse(&self) {
+        self.tally.refuse();
     }
 
     ghost notes = { λ a b question answer heard. heard.0.notes };

@@ -2,6 +2,7 @@
 ghost use Rattle.std.specs.Prelude.{◌≡◌, vec_len};
 
 use crate::plan_run::ring_parts_of;
+use crate::serving::request_tally::RequestTally;
 use crate::serving::server::Serving;
 use chord_app_sockets::{ClientSeconds, Host, Lines, ServerSetup, Stop, Until};
 use chord_app_text::Finish;
@@ -45,12 +46,22 @@ fn serve_until<S: EntryStore + Send, R: Host, L: Log + Sync, W: Write + Send + D
     lines: Lines<W>,
     parts: RingParts,
 ) -> Result<(), Finish> {
+    let requests = match RequestTally::new(setup.alloc) {
+        Ok(requests) => requests,
+        Err(_) => {
+            drop(stores);
+            drop(lines);
+            drop(parts);
+            return Err(Finish::OutOfMemory);
+        }
+    };
     let serving = Serving {
         rt,
         setup,
         stores,
         until,
         lines: &lines,
+        requests: &requests,
     };
     match serving.serve_named::<Brand>(parts) {
         Ok(()) => lines.finish(),

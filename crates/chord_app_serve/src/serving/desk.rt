@@ -2,11 +2,12 @@
 ghost use Rattle.std.specs.Prelude.{◌≡◌};
 ghost use Rattle.chord_app_serve.specs.Shown.{store_of};
 
+use crate::serving::process::process_sight;
 use crate::serving::shown::store_shown;
 use crate::serving::spares::Spares;
-use chord_app_operator::StoreKind;
+use chord_app_operator::{ProcessSight, StoreKind};
 use chord_app_plan::Plan;
-use chord_app_sockets::{Clients, OperatorPort, ServerSetup, Stop};
+use chord_app_sockets::{Clients, OperatorPort, ProcessFiles, ServerSetup, Stop};
 use chord_store::EntryStore;
 use std::alloc::Global;
 use std::hash::RandomState;
@@ -21,6 +22,7 @@ pub struct OperatorDoor<'s> {
     pub listener: &'s TcpListener,
     pub port: u16,
     pub keys: RandomState,
+    pub process: Option<&'s ProcessFiles>,
     /// Tells those who accept that the server ends.
     pub stop: Stop,
     pub open: Clients,
@@ -33,6 +35,7 @@ impl<'s> OperatorDoor<'s> {
             listener: port.listener,
             port: address.port(),
             keys: port.keys,
+            process: port.process,
             stop: Stop::new(address),
             open: Clients::new(alloc),
         })
@@ -80,6 +83,14 @@ impl<'s, S: EntryStore> Desk<'s, S> {
         match began.elapsed(rt) {
             Ok(passed) => u64::try_from(passed.as_millis()).unwrap_or(u64::MAX),
             Err(_) => 0,
+        }
+    }
+
+    /// What the system tells of the process.
+    pub fn process(&self) -> ProcessSight {
+        match &self.door {
+            Some(door) => process_sight(door.process),
+            None => ProcessSight::default(),
         }
     }
 

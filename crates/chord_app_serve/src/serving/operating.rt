@@ -31,6 +31,7 @@ impl<'s, 'r, J: Naming, S: EntryStore, R: Host, L: Log, W: Write> Server<'s, 'r,
             clients: &self.clients,
             sessions: &self.sessions,
             tally: &self.tally,
+            requests: self.service.requests,
             until: self.until,
             desk: &self.desk,
         }

@@ -5,11 +5,13 @@ ghost use Rattle.chord_app_serve.specs.Shown.{store_of, AreShown, IsShownAs, Tel
 
 use crate::serving::caller_pool::CallerPool;
 use crate::serving::desk::Desk;
+use crate::serving::request_tally::RequestTally;
 use crate::serving::sessions::Sessions;
 use crate::serving::tally::Tally;
 use chord_app_operator::{
-    CallerCounts, CrashRefusal, CrashRequest, Holder, JoinRefusal, JoinRequest, LeaveRefusal,
-    Operator, PairsPage, PairsRequest, RescueRefusal, RingSight, StoredNode,
+    ByteCounts, CallerCounts, CrashRefusal, CrashRequest, HealthSight, Holder, JoinRefusal,
+    JoinRequest, LeaveRefusal, Operator, PairsPage, PairsRequest, RescueRefusal, RingSight,
+    StoredNode,
 };
 use chord_app_sockets::{Clients, Host, Until};
 use chord_ident::Id;
@@ -32,6 +34,7 @@ pub struct RingOperator<'t, 's, 'r, J: Naming, S: EntryStore, R> {
     pub clients: &'t Clients,
     pub sessions: &'t Sessions<'r, J, S, R>,
     pub tally: &'t Tally,
+    pub requests: &'t RequestTally,
     pub until: Until<'s>,
     pub desk: &'t Desk<'s, S>,
 }
@@ -68,6 +71,29 @@ impl<'t, 's, 'r, J: Naming, S: EntryStore, R: Wait + Clock> RingOperator<'t, 's,
             nodes.push(node)?;
         }
         Ok(nodes)
+    }
+
+    /// Whether a node is staying.
+    fn has_node(&self) -> bool {
+        for number in 0..self.ring.node_count() {
+            if self.ring.phase_of(self.rt, number) == Some(Phase::Staying) {
+                return true;
+            }
+        }
+        false
+    }
+
+    /// Whether a client that comes now gets a caller: one that neither a connection nor a session
+    /// has, or that of a session that is kept no longer.
+    fn has_caller(&self) -> bool {
+        let held = self
+            .pool
+            .serving()
+            .saturating_add(self.sessions.kept(self.rt));
+        held < self.ring.settings().callers as u64
+            || self
+                .sessions
+                .can_drop(self.rt, self.desk.uptime_ms(self.rt))
     }
 
     /// Crashes a node if the ring allows it, or by force.
@@ -107,22 +133,29 @@ impl<'t, 's, 'r, J: Naming, S: EntryStore, R: Host> Operator for RingOperator<'t
             callers: CallerCounts {
                 open: self.pool.serving(),
                 all: settings.callers as u64,
+                pending: self.requests.pending(),
             },
             connections: self.clients.count(self.rt),
             ends: self.tally.ends(self.rt),
             sessions: self.tally.sessions(self.rt, self.sessions.kept(self.rt)),
+            answers: self.requests.answers(),
+            times: self.requests.times(alloc)?,
+            bytes: ByteCounts {
+                read: self.clients.bytes_read(),
+                written: self.clients.bytes_written(),
+            },
+            process: self.desk.process(),
             uptime_ms: self.desk.uptime_ms(self.rt),
             nodes,
         })
     }
 
-    fn is_healthy(&mut self) -> bool {
-        for number in 0..self.ring.node_count() {
-            if self.ring.phase_of(self.rt, number) == Some(Phase::Staying) {
-                return true;
-            }
+    fn health(&mut self) -> HealthSight {
+        HealthSight {
+            has_node: self.has_node(),
+            has_caller: self.has_caller(),
+            is_stopped: self.until.is_stopped(),
         }
-        false
     }
 
     fn join(&mut self, request: JoinRequest) -> Result<u64, JoinRefusal> {

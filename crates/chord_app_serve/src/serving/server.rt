@@ -8,6 +8,7 @@ use crate::serving::commands::ServerStores;
 use crate::serving::desk::Desk;
 use crate::serving::idle::IdleCaller;
 use crate::serving::info::Told;
+use crate::serving::request_tally::RequestTally;
 use crate::serving::service::{Service, node_of};
 use crate::serving::sessions::Sessions;
 use crate::serving::tally::Tally;
@@ -103,7 +104,7 @@ impl<'s, 'r, J: Naming, S: EntryStore, R: Host, L: Log, W: Write> Server<'s, 'r,
     /// Tells a client that no caller is left, if that is why its connection ends so.
     pub fn refuse(&self, guest: Guest<'_>, none: Ended) -> Ended {
         if none == Ended::CallersSpent {
-            let mut writer = PatientWriter::new(guest.stream);
+            let mut writer = PatientWriter::new(self.clients.counted(guest.stream));
             let _ = tell_spent(self.service.alloc, guest.protocol, &mut writer).is_ok();
         }
         none
@@ -137,9 +138,10 @@ impl<'s, 'r, J: Naming, S: EntryStore, R: Host, L: Log, W: Write> Server<'s, 'r,
             Ok(idle) => idle,
             Err(none) => return self.refuse(guest, none),
         };
-        let polling = PollingReader::new(guest.stream, &self.pollers);
+        let counted = self.clients.counted(guest.stream);
+        let polling = PollingReader::new(counted, &self.pollers);
         let mut reader = PatientReader::new(polling, &self.clients, self.until.idle());
-        let mut writer = PatientWriter::new(guest.stream);
+        let mut writer = PatientWriter::new(counted);
         let server = ServerInfo {
             number: guest.number,
             source: lending.source(),
@@ -459,7 +461,8 @@ fn conclude<J: Naming, S: EntryStore>(
     }
 }
 
-/// What a server serves with: its stores, until when, and where it writes how connections ended.
+/// What a server serves with: its stores, until when, where it writes how connections ended, and
+/// where it counts requests.
 #[derive(Drop)]
 pub struct Serving<'a, S: EntryStore, R, L, W> {
     pub rt: &'a R,
@@ -467,6 +470,7 @@ pub struct Serving<'a, S: EntryStore, R, L, W> {
     pub stores: ServerStores<S>,
     pub until: Until<'a>,
     pub lines: &'a Lines<W>,
+    pub requests: &'a RequestTally,
 }
 
 impl<S: EntryStore + Send, R: Host, L: Log + Sync, W: Write + Send> Serving<'_, S, R, L, W> {
@@ -481,8 +485,9 @@ impl<S: EntryStore + Send, R: Host, L: Log + Sync, W: Write + Send> Serving<'_, 
             stores,
             until,
             lines,
+            requests,
         } = self;
-        let service = Service::new(rt, ring, setup);
+        let service = Service::new(rt, ring, setup, requests);
         let pool = CallerPool::new(setup.alloc, ring, until.keeps_callers())?;
         let ServerStores { nodes, spares } = stores;
         let desk = Desk::new(rt, setup, spares)?;

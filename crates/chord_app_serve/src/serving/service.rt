@@ -15,8 +15,9 @@ ghost use Rattle.chord_session.specs.Session.{first_state};
 use crate::nodes::Workers;
 use crate::serving::asker::RingAsker;
 use crate::serving::idle::IdleCaller;
+use crate::serving::request_tally::RequestTally;
 use chord_app_plan::PlanNode;
-use chord_app_sockets::{Ended, ServerSetup, Until};
+use chord_app_sockets::{Ended, Protocol, ServerSetup, Until};
 use chord_app_text::Finish;
 use chord_live::RingClient;
 use chord_live_ring::Ring;
@@ -39,6 +40,7 @@ pub struct Service<'r, J: Naming, S: EntryStore, R, L> {
     pub alloc: Global,
     pub ring: &'r Ring<J, S>,
     pub notes: &'r L,
+    pub requests: &'r RequestTally,
 }
 
 /// A session of a ring's client.
@@ -57,12 +59,14 @@ impl<'r, J: Naming, S: EntryStore, R: Wait + Clock, L: Log> Service<'r, J, S, R,
         rt: &'r R,
         ring: &'r Ring<J, S>,
         setup: &'r ServerSetup<'r, L>,
+        requests: &'r RequestTally,
     ) -> Service<'r, J, S, R, L> {
         Service {
             rt,
             alloc: setup.alloc,
             ring,
             notes: setup.notes,
+            requests,
         }
     }
 
@@ -106,7 +110,7 @@ impl<'r, J: Naming, S: EntryStore, R: Wait + Clock, L: Log> Service<'r, J, S, R,
             × IsServed AnswersBy result.0 None first_state (first_asker idle.entry.caller via) (frames ++ input) output last
             × Appends (O.contents writer.old) (O.contents writer.new) output × (result.1 ≡ last.caller) }
     {
-        let asker = RingAsker::new(self.rt, idle, via);
+        let asker = RingAsker::new(self.rt, idle, via, self.requests.of(Protocol::Frames));
         let (served, asker) = serve_plain(
             self.alloc,
             reader,
@@ -164,7 +168,9 @@ impl<'r, J: Naming, S: EntryStore, R: Wait + Clock, L: Log> Service<'r, J, S, R,
         // told: such a connection goes on by these answers (`WaitingConnection::go_on`).
         ensures asker { result.connection.asker ≡ first_asker idle.entry.caller via }
     {
-        WaitingConnection::new(self.alloc, server, RingAsker::new(self.rt, idle, via))
+        let tally = self.requests.of(Protocol::Redis);
+        let asker = RingAsker::new(self.rt, idle, via, tally);
+        WaitingConnection::new(self.alloc, server, asker)
     }
 
     /// Logs how a connection ended.

@@ -1,4 +1,6 @@
 //! The sessions of a server's clients.
+ghost use Rattle.std.specs.Prelude.{◌≡◌};
+ghost use Rattle.chord_app_serve.specs.Keeping.{is_surplus, kept_until};
 
 use crate::serving::asker::RingAsker;
 use chord_serve::{BeginRefusal, ClientSession, Resumed, SessionTable};
@@ -14,6 +16,21 @@ const MOST_KEPT_BYTES: u64 = 64 << 20;
 
 /// For how many milliseconds a connection waits at a time for an older one to end.
 const TICK_MILLISECONDS: u64 = 100;
+
+/// The latest moment at which a session may have lost its connection that is kept no longer now,
+/// where one is kept for these seconds and its caller is needed.
+fn kept_until(now: u64, seconds: u64) -> Option<u64>
+    ensures { result ≡ kept_until now seconds }
+{
+    now.checked_sub(seconds.checked_mul(1_000)?)
+}
+
+/// Whether these are too many bytes of kept answers.
+fn is_surplus(bytes: u64) -> bool
+    ensures { result ≡ is_surplus bytes }
+{
+    bytes > MOST_KEPT_BYTES
+}
 
 /// The sessions of a server's clients, with connections and without.
 #[derive(Drop)]
@@ -93,14 +110,22 @@ impl<'r, J: Naming, S: EntryStore, R: Wait + Clock> Sessions<'r, J, S, R> {
     /// Drops the session that was kept longest, if for as long as one is kept at least. Its caller
     /// is needed.
     pub fn drop_oldest(&self, rt: &R, now: u64) -> Option<RingAsker<'r, J, S, R>> {
-        let until = now.checked_sub(self.seconds.saturating_mul(1_000))?;
+        let until = kept_until(now, self.seconds)?;
         self.table.lock(rt).drop_oldest(until)
+    }
+
+    /// Whether a session could be dropped for its caller now.
+    pub fn can_drop(&self, rt: &R, now: u64) -> bool {
+        match kept_until(now, self.seconds) {
+            Some(until) => self.table.lock(rt).can_drop(until),
+            None => false,
+        }
     }
 
     /// Drops the session that was kept longest, if the kept answers take too much memory.
     pub fn drop_surplus(&self, rt: &R) -> Option<RingAsker<'r, J, S, R>> {
         let mut table = self.table.lock(rt);
-        if table.kept_bytes() <= MOST_KEPT_BYTES {
+        if !is_surplus(table.kept_bytes()) {
             return None;
         }
         table.drop_oldest(u64::MAX)

@@ -1,4 +1,6 @@
 //! Counts of a server's connections and of its sessions, for its operator.
+ghost use Rattle.std.specs.Prelude.{◌≡◌};
+ghost use Rattle.chord_app_serve.specs.Counts.{is_refusal, one_more, with_end, with_served};
 
 use chord_app_operator::{EndCounts, SessionCounts};
 use chord_app_sockets::Ended;
@@ -14,28 +16,50 @@ pub struct Tally {
     sessions: Mutex<SessionCounts>,
 }
 
-/// The count of the connections that ended so.
-fn count_of<'a>(ends: &'a mut EndCounts, ended: &Ended) -> &'a mut u64 {
+/// One more, if that fits.
+fn one_more(count: u64) -> u64
+    ensures { result ≡ one_more count }
+{
+    count.saturating_add(1)
+}
+
+/// Counts a connection that was served and ended so.
+fn count_served(ends: &mut EndCounts, served: &Served)
+    ensures { ends.new ≡ with_served served.now ends.old }
+{
+    match served {
+        Served::Ended => ends.ended = one_more(ends.ended),
+        Served::Quit => ends.ended = one_more(ends.ended),
+        Served::Truncated => ends.truncated = one_more(ends.truncated),
+        Served::Malformed(_) => ends.malformed = one_more(ends.malformed),
+        Served::Protocol => ends.protocol = one_more(ends.protocol),
+        Served::Foreign => ends.protocol = one_more(ends.protocol),
+        Served::Read => ends.read = one_more(ends.read),
+        Served::Write => ends.write = one_more(ends.write),
+        Served::TurnsSpent => ends.turns_spent = one_more(ends.turns_spent),
+        Served::Memory => ends.memory = one_more(ends.memory),
+    }
+}
+
+/// Counts a connection that ended so.
+fn count_end(ends: &mut EndCounts, ended: &Ended)
+    ensures { ends.new ≡ with_end ended.now ends.old }
+{
     match ended {
-        Ended::Served(Served::Ended | Served::Quit) => &mut ends.ended,
-        Ended::Served(Served::Truncated) => &mut ends.truncated,
-        Ended::Served(Served::Malformed(_)) => &mut ends.malformed,
-        Ended::Served(Served::Protocol | Served::Foreign) => &mut ends.protocol,
-        Ended::Served(Served::Read) | Ended::NotAccepted => &mut ends.read,
-        Ended::Served(Served::Write) => &mut ends.write,
-        Ended::Served(Served::TurnsSpent) => &mut ends.turns_spent,
-        Ended::Served(Served::Memory) => &mut ends.memory,
-        Ended::CallersSpent => &mut ends.callers_spent,
-        Ended::Idle => &mut ends.idle,
+        Ended::Served(served) => count_served(ends, served),
+        Ended::CallersSpent => ends.callers_spent = one_more(ends.callers_spent),
+        Ended::Idle => ends.idle = one_more(ends.idle),
+        Ended::NotAccepted => ends.read = one_more(ends.read),
     }
 }
 
 /// Whether a connection that ended so was refused a session.
-fn is_refusal(ended: &Ended) -> bool {
+fn is_refusal(ended: &Ended) -> bool
+    ensures { result ≡ is_refusal ended.now }
+{
     match ended {
-        Ended::Served(Served::Malformed(code)) => {
-            *code == FaultCode::SessionKnown || *code == FaultCode::NoSession
-        }
+        Ended::Served(Served::Malformed(FaultCode::SessionKnown)) => true,
+        Ended::Served(Served::Malformed(FaultCode::NoSession)) => true,
         _ => false,
     }
 }
@@ -50,26 +74,23 @@ impl Tally {
 
     /// Counts a connection that ended.
     pub fn end(&self, rt: &impl Wait, ended: &Ended) {
-        let mut ends = self.ends.lock(rt);
-        let count = count_of(&mut ends, ended);
-        *count = count.saturating_add(1);
-        drop(ends);
+        count_end(&mut self.ends.lock(rt), ended);
         if is_refusal(ended) {
             let mut sessions = self.sessions.lock(rt);
-            sessions.refused = sessions.refused.saturating_add(1);
+            sessions.refused = one_more(sessions.refused);
         }
     }
 
     /// Counts a session that goes on over another connection.
     pub fn resume(&self, rt: &impl Wait) {
         let mut sessions = self.sessions.lock(rt);
-        sessions.resumed = sessions.resumed.saturating_add(1);
+        sessions.resumed = one_more(sessions.resumed);
     }
 
     /// Counts a session that was dropped for its caller or its memory.
     pub fn drop_session(&self, rt: &impl Wait) {
         let mut sessions = self.sessions.lock(rt);
-        sessions.dropped = sessions.dropped.saturating_add(1);
+        sessions.dropped = one_more(sessions.dropped);
     }
 
     /// How many connections ended, by how.

@@ -27,7 +27,8 @@ impl<'s, 'r, J: Naming, S: EntryStore, R: Host, L: Log, W: Write> Server<'s, 'r,
         frames: &mut SessionFrames,
         idle: Option<u64>,
     ) -> Result<Option<Opening>, Ended> {
-        let mut reader = PatientReader::new(guest.stream, &self.clients, idle);
+        let stream = self.clients.counted(guest.stream);
+        let mut reader = PatientReader::new(stream, &self.clients, idle);
         match greet(&mut reader, frames, self.until.turns()) {
             Ok(opening) => Ok(opening),
             Err(served) => Err(Ended::by(served, reader.is_idle())),
@@ -107,9 +108,10 @@ impl<'s, 'r, J: Naming, S: EntryStore, R: Host, L: Log, W: Write> Server<'s, 'r,
         guest: Guest<'_>,
         frames: SessionFrames,
     ) -> Ended {
-        let polling = PollingReader::new(guest.stream, &self.pollers);
+        let stream = self.clients.counted(guest.stream);
+        let polling = PollingReader::new(stream, &self.pollers);
         let mut reader = PatientReader::new(polling, &self.clients, self.until.idle());
-        let mut writer = PatientWriter::new(guest.stream);
+        let mut writer = PatientWriter::new(stream);
         let (served, caller) = self.service.serve_frames(
             idle,
             guest.via,
@@ -133,7 +135,8 @@ impl<'s, 'r, J: Naming, S: EntryStore, R: Host, L: Log, W: Write> Server<'s, 'r,
         let service = self.service;
         match self.sessions.begin(service.rt, token, guest.number) {
             Ok(()) => {
-                let asker = RingAsker::new(service.rt, idle, guest.via);
+                let tally = service.requests.of(guest.protocol);
+                let asker = RingAsker::new(service.rt, idle, guest.via, tally);
                 let client = ClientSession::new(service.alloc, asker);
                 self.serve_in_session(client, token, guest, frames)
             }
@@ -193,9 +196,10 @@ impl<'s, 'r, J: Naming, S: EntryStore, R: Host, L: Log, W: Write> Server<'s, 'r,
         guest: Guest<'_>,
         frames: SessionFrames,
     ) -> Ended {
-        let polling = PollingReader::new(guest.stream, &self.pollers);
+        let stream = self.clients.counted(guest.stream);
+        let polling = PollingReader::new(stream, &self.pollers);
         let mut reader = PatientReader::new(polling, &self.clients, self.until.idle());
-        let mut writer = PatientWriter::new(guest.stream);
+        let mut writer = PatientWriter::new(stream);
         let (served, parted) = self
             .service
             .serve_session(client, frames, &mut reader, &mut writer, self.until);
@@ -249,7 +253,7 @@ impl<'s, 'r, J: Naming, S: EntryStore, R: Host, L: Log, W: Write> Server<'s, 'r,
     /// Tells a client why its connection has no session.
     fn refuse_session(&self, guest: Guest<'_>, code: FaultCode) -> Ended {
         let alloc = self.service.alloc;
-        let mut writer = PatientWriter::new(guest.stream);
+        let mut writer = PatientWriter::new(self.clients.counted(guest.stream));
         let told = if code == FaultCode::SessionKnown {
             tell_session_known(alloc, &mut writer)
         } else {

@@ -131,6 +131,12 @@ const BEFORE: &[Call] = &[
         ..PLAIN
     },
     Call {
+        line: "GET /ready",
+        status: "200 OK",
+        has: "\r\n\r\nok\n",
+        ..PLAIN
+    },
+    Call {
         line: "GET /",
         status: "200 OK",
         has: "content-type: text/html",
@@ -145,7 +151,7 @@ const BEFORE: &[Call] = &[
     Call {
         line: "GET /ring",
         status: "200 OK",
-        has: "\"callers\":{\"all\":2,\"open\":0}",
+        has: "\"callers\":{\"all\":2,\"open\":0,\"pending\":0}",
         ..PLAIN
     },
     Call {
@@ -246,7 +252,19 @@ const LEAVE: &[Call] = &[
     Call {
         line: "GET /ring",
         status: "200 OK",
-        has: "{\"callers\":{\"all\":2,\"open\":2},\"connections\":2,",
+        has: "\"callers\":{\"all\":2,\"open\":2,\"pending\":0},\"connections\":2,",
+        ..PLAIN
+    },
+    Call {
+        line: "GET /ready",
+        status: "503 Service Unavailable",
+        has: "\r\n\r\nno caller is free\n",
+        ..PLAIN
+    },
+    Call {
+        line: "GET /health",
+        status: "200 OK",
+        has: "\r\n\r\nok\n",
         ..PLAIN
     },
     Call {
@@ -336,7 +354,7 @@ const CRASH: &[Call] = &[
     Call {
         line: "GET /health",
         status: "503 Service Unavailable",
-        has: "",
+        has: "\r\n\r\nno node is staying\n",
         ..PLAIN
     },
     Call {
@@ -476,18 +494,33 @@ const THREE_CLIENTS: Acts = &[
 
 const THREE_LEAVE: Acts = &[(0, Act::Leave), (1, Act::Leave), (2, Act::Leave)];
 
-/// Both nodes told the replies, and neither passed a request on.
-const NONE_PASSED_ON: &[Call] = &[Call {
-    line: "GET /metrics",
-    status: "200 OK",
-    has: concat!(
-        "chord_asks_total{node=\"0\",answer=\"told\"} 2\n",
-        "chord_asks_total{node=\"1\",answer=\"told\"} 1\n",
-        "chord_asks_total{node=\"0\",answer=\"forwarded\"} 0\n",
-        "chord_asks_total{node=\"1\",answer=\"forwarded\"} 0\n",
-    ),
-    ..PLAIN
-}];
+/// Both nodes told the replies, and neither passed a request on. A request of 16 bytes came twice
+/// and one of 18, and each answer has 18.
+const NONE_PASSED_ON: &[Call] = &[
+    Call {
+        line: "GET /metrics",
+        status: "200 OK",
+        has: concat!(
+            "chord_asks_total{node=\"0\",answer=\"told\"} 2\n",
+            "chord_asks_total{node=\"1\",answer=\"told\"} 1\n",
+            "chord_asks_total{node=\"0\",answer=\"forwarded\"} 0\n",
+            "chord_asks_total{node=\"1\",answer=\"forwarded\"} 0\n",
+        ),
+        ..PLAIN
+    },
+    Call {
+        line: "GET /metrics",
+        status: "200 OK",
+        has: concat!(
+            "chord_forwards_total 0\n",
+            "# HELP chord_bytes_total Bytes that connections of clients carried.\n",
+            "# TYPE chord_bytes_total counter\n",
+            "chord_bytes_total{direction=\"read\"} 50\n",
+            "chord_bytes_total{direction=\"written\"} 54\n",
+        ),
+        ..PLAIN
+    },
+];
 
 const AT_THEIR_NODES: &[Step] = &[
     Step::Operator(HOLDERS),
@@ -527,6 +560,43 @@ const FAULT_11: &[u8] = b"\x00\x00\x00\x0b\x01\xff\x00\x00\x00\x00\x00\x00\x00\x
 
 /// A client asks for `abc` by its request 2, and is told fault 11.
 const NO_ANSWER: Act = Act::Exchange(RETRIEVE_ABC, FAULT_11);
+
+/// Two requests got a reply, and two were told that there is no answer.
+const TWO_REPLIES: &[Call] = &[
+    Call {
+        line: "GET /metrics",
+        status: "200 OK",
+        has: concat!(
+            "chord_answers_total{protocol=\"frames\",answer=\"reply\"} 2\n",
+            "chord_answers_total{protocol=\"frames\",answer=\"full\"} 0\n",
+            "chord_answers_total{protocol=\"frames\",answer=\"no_answer\"} 2\n",
+            "chord_answers_total{protocol=\"frames\",answer=\"memory\"} 0\n",
+            "chord_answers_total{protocol=\"frames\",answer=\"refused\"} 0\n",
+        ),
+        ..PLAIN
+    },
+    Call {
+        line: "GET /metrics",
+        status: "200 OK",
+        has: concat!(
+            "\nchord_request_seconds_bucket{le=\"10000000e-6\"} 4\n",
+            "chord_request_seconds_bucket{le=\"+Inf\"} 4\n",
+        ),
+        ..PLAIN
+    },
+    Call {
+        line: "GET /metrics",
+        status: "200 OK",
+        has: "\nchord_request_seconds_count 4\n",
+        ..PLAIN
+    },
+    Call {
+        line: "GET /metrics",
+        status: "200 OK",
+        has: "\nchord_callers_pending 0\n",
+        ..PLAIN
+    },
+];
 
 /// Node 1 is rescued: node 0 holds `abc` then, and node 1 is gone.
 const NODE_1_IS_RESCUED: &[Call] = &[
@@ -585,6 +655,7 @@ const BEHIND_A_CRASH: &[Step] = &[
         (1, RETRIEVE_B),
         (1, Act::Leave),
     ]),
+    Step::Operator(TWO_REPLIES),
     Step::Operator(NODE_1_IS_RESCUED),
     Step::Clients(&[
         (0, Act::Call(2, Ask::Retrieve, Answer::Values(&[b"x"]))),
@@ -616,6 +687,60 @@ fn a_stop_ends_a_stuck_request(rt: HostRuntime) -> Result<(), Fail> {
     let pipe = io::pipe(&rt)?;
     let lines = "connection 0 ended\n";
     let found = operated(&rt, rt.alloc(), server, STOPPED_WITH_A_REQUEST, pipe, lines);
+    assert!(rt; found == Some(GOOD), "{found:?}");
+    Ok(())
+}
+
+/// A client inserts `y` for `b` by its request 2, and is told that it was added.
+const INSERT_B: Act = Act::Exchange(
+    b"\x00\x00\x00\x0f\x01\x01\x00\x00\x00\x00\x00\x00\x00\x02\x01b\x00\x01y",
+    b"\x00\x00\x00\x0b\x01\x81\x00\x00\x00\x00\x00\x00\x00\x02\x01",
+);
+
+/// Node 1 begins to be rescued, and is not gone.
+const RESCUE_BEGINS: &[Call] = &[
+    Call {
+        line: "POST /nodes/1/rescue",
+        status: "202 Accepted",
+        has: "{\"node\":1}",
+        ..PLAIN
+    },
+    Call {
+        line: "GET /metrics",
+        status: "200 OK",
+        has: "chord_nodes{phase=\"rescuing\"} 1\n",
+        ..PLAIN
+    },
+];
+
+/// The server is stopped while node 0 has no room for what node 1 gives, and while a client sends
+/// nothing.
+const STOPPED_AMID_A_RESCUE: &[Step] = &[
+    Step::Operator(HOLDERS),
+    Step::Clients(&[
+        (0, Act::Connect),
+        (0, Act::Call(1, Ask::Insert(b"x"), Answer::Added)),
+        (0, INSERT_B),
+        (0, Act::Leave),
+        (1, Act::Connect),
+    ]),
+    Step::Operator(NODE_1_CRASHES),
+    Step::Operator(RESCUE_BEGINS),
+    Step::Operator(STOPS),
+    Step::Clients(&[(1, Act::End)]),
+];
+
+/// Each store has room for one pair. The server ends all the same.
+#[test]
+fn a_stop_ends_a_rescue_and_a_silent_client(rt: HostRuntime) -> Result<(), Fail> {
+    let size = Size {
+        room: 1,
+        ..TWO_CALLERS
+    };
+    let server = (size, RandomState::new(&rt)?);
+    let pipe = io::pipe(&rt)?;
+    let lines = "connection 0 ended\nconnection 1 ended\n";
+    let found = operated(&rt, rt.alloc(), server, STOPPED_AMID_A_RESCUE, pipe, lines);
     assert!(rt; found == Some(GOOD), "{found:?}");
     Ok(())
 }

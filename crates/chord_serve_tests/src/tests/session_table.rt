@@ -111,16 +111,23 @@ fn the_oldest_kept_session_is_dropped(rt: HostRuntime) {
     let mut table = two(alloc).expect(&rt, "memory for two sessions");
     let is_parted = part(alloc, &mut table, 1, 9);
     let bytes = table.kept_bytes();
+    let has_young = table.can_drop(4);
     let young = table.drop_oldest(4);
+    let has_oldest = table.can_drop(100);
     let oldest = table.drop_oldest(100);
     let gone = resume(&mut table, 2, 60);
     let next = table.drop_oldest(9);
+    let has_none = table.can_drop(u64::MAX);
     let none = table.drop_oldest(u64::MAX);
     drop(table);
     check!(&rt; is_parted, "there was memory");
     check!(&rt; bytes == 0, "no request was answered");
     check!(&rt; young == None, "both lost their connections later");
     check!(&rt; oldest == Some(Numbered(2)), "the second lost it first");
+    check!(&rt;
+        (has_young, has_oldest, has_none) == (false, true, false),
+        "that could be told before"
+    );
     check!(&rt; gone == Found::Unknown, "it was dropped");
     check!(&rt;
         (next, none) == (Some(Numbered(1)), None),

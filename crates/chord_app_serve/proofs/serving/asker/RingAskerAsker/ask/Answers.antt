@@ -20,12 +20,12 @@ returns-clause-answer g c =
     let called : CallIs AwaitIs c.args.request.now settled c.call-ended.result new =
     subst (λ (request : Request). CallIs AwaitIs request settled c.call-ended.result new) c.in-Ok.ensures.copy c.call-ended.ensures.answer in
     rw (← c.self.view_is) (
-      subst (λ (before : List Request). IsHeard (Ask c.args.request.now c.args.floor) c.answer_of_call.result before (asked_since asker.before new))
+      subst (λ (before : List Request). IsHeard (Ask c.args.request.now c.args.floor) c.answer_of_call-answer.result before (asked_since asker.before new))
           (asked_stays asker.before upto asker.caller settled c.settle.ensures)
-          (heard_first asker.before c.args.request.now c.args.floor c.call-ended.result c.answer_of_call.result settled new begun called c.answer_of_call.ensures.told),
+          (heard_first asker.before c.args.request.now c.args.floor c.call-ended.result c.answer_of_call-answer.result settled new begun called c.answer_of_call-answer.ensures.told),
       refl,
       refl,
-      (settled, c.settle.ensures, inl (c.call-ended.result, called, c.answer_of_call.ensures.told)),
+      (settled, c.settle.ensures, inl (c.call-ended.result, called, c.answer_of_call-answer.ensures.told)),
     )
 
 pub returns-in_default-clause-answer : goal.returns-in_default-clause-answer

@@ -19,12 +19,12 @@ returns-clause-answer g c =
     let sent : RetryIs AwaitIs (asker.before + c.args.number) settled c.call_again-ended.result new =
     subst (λ (number : ℕ). RetryIs AwaitIs number settled c.call_again-ended.result new) place c.call_again-ended.ensures.answer in
     rw (← c.self.view_is) (
-      subst (λ (before : List Request). IsHeard (Retry c.args.number c.args.floor) c.answer_of_retry.result before (asked_since asker.before new))
+      subst (λ (before : List Request). IsHeard (Retry c.args.number c.args.floor) c.answer_of_retry-answer.result before (asked_since asker.before new))
           (asked_stays asker.before upto asker.caller settled c.settle.ensures)
-          (heard_again asker.before c.args.number c.args.floor c.call_again-ended.result c.answer_of_retry.result settled new sent c.answer_of_retry.ensures.told),
+          (heard_again asker.before c.args.number c.args.floor c.call_again-ended.result c.answer_of_retry-answer.result settled new sent c.answer_of_retry-answer.ensures.told),
       refl,
       refl,
-      (settled, c.settle.ensures, inl (c.call_again-ended.result, sent, c.answer_of_retry.ensures.told)),
+      (settled, c.settle.ensures, inl (c.call_again-ended.result, sent, c.answer_of_retry-answer.ensures.told)),
     )
 
 pub returns-in_default-clause-answer : goal.returns-in_default-clause-answer
