@@ -88,7 +88,7 @@ module _ {A D : Type 0} (answers : A → Question → Asked → A → Type 0) (f
       subst (λ (b : Bool). StopsAfter answers (opened c) (held c).version (held c).numbers (held c).asker (frames c ++ i) o (parted_as b (held d))) (sym (same ∙ going))
       (record { rest = rest; version = (held d).version; state = (held d).numbers; asker = (held d).asker; dealt = gave; last = refl })
 
-  written_serves : (c d : D) (i o whole rest : List ℕ) → over c ≡ false → whole ≡ o ++ rest → Talks Fed One c i whole d ⊎ ((end : Served) × IsStopped Fed One Stop Quiet end c i whole d)
+  pub written_serves : (c d : D) (i o whole rest : List ℕ) → over c ≡ false → whole ≡ o ++ rest → Talks Fed One c i whole d ⊎ ((end : Served) × IsStopped Fed One Stop Quiet end c i whole d)
       → Ends served.Write c (frames c ++ i) o (left_of d)
   written_serves c d i o whole rest going e (inl talked) = let all = dealt_all c d i whole talked in (whole, rest, e, inl (some_done c d i whole (frames d) going all.2 all.0))
   written_serves c d i o whole rest going e (inr stopped) = prefix_served answers stopped.0 (opened c) (held c).version (held c).numbers (held c).asker (left_of d) (frames c ++ i) whole o rest e (stopped_serves stopped.0 c d i whole going stopped.1)
@@ -100,7 +100,7 @@ module _ {A D : Type 0} (answers : A → Question → Asked → A → Type 0) (f
       let bytes : (frames c ++ p.heard) ++ p.piece ≡ frames c ++ i = append_assoc (frames c) p.heard p.piece ∙ ap (λ (x : List ℕ). frames c ++ x) (sym p.input_is) in
       some_done c d i o (frames d ++ p.piece) going all.2 (subst (λ (x : List ℕ). Gave c x o (frames d ++ p.piece) (held d)) bytes more)
 
-  conversed_serves : (end : Served) (c d : D) (i o : List ℕ) → over c ≡ false → Conversed Fed One Stop Quiet Between end c i o d → Ends end c (frames c ++ i) o (left_of d)
+  pub conversed_serves : (end : Served) (c d : D) (i o : List ℕ) → over c ≡ false → Conversed Fed One Stop Quiet Between end c i o d → Ends end c (frames c ++ i) o (left_of d)
   conversed_serves served.Ended c d i o going p = subst (λ (x : List ℕ). KeptAs (left_of d) (DealsWithAll answers (held c).version (held c).numbers (held c).asker (frames c ++ i) o x)) (empty_if (frames d) p.1) (waits_all c d i o going p.0)
   conversed_serves served.Truncated c d i o going p = (frames d, some_left (frames d) p.1, waits_all c d i o going p.0)
   conversed_serves served.Read c d i o going p = (frames d, waits_all c d i o going p)

@@ -3,7 +3,7 @@ ghost use Rattle.std.specs.Prelude.{◌≡◌, ◌≢◌, List};
 ghost use Rattle.chord_map.specs.declared.request.Request.{Request};
 ghost use Rattle.chord_serve.specs.Question.{Question, Ask, Retry, IsAnswer, IsReplyTo, asked_with, request_asked};
 ghost use Rattle.chord_serve.specs.declared.asker.Asked.{Asked};
-ghost use Rattle.chord_serve.specs.declared.asker.Asked.TheVariants.{Memory};
+ghost use Rattle.chord_serve.specs.declared.asker.Asked.TheVariants.{Memory, NoAnswer};
 
 use chord_map::{Reply, Request};
 
@@ -36,6 +36,20 @@ pub trait Asker {
 
     /// Hears that a request is refused, so that it is not asked.
     fn refuse(&self) {}
+
+    /// Whether the last request, which got no answer, may still get one by a further try.
+    fn may_try_again(&self) -> bool {
+        false
+    }
+
+    /// Tries the last request once more, which got no answer: it is the same question still.
+    fn try_again(&mut self) -> Asked
+        ensures again { (before : _) (question : Question) → answers before question NoAnswer self.old
+            → answers before question result self.new }
+        ensures fits { IsAnswer result }
+    {
+        Asked::NoAnswer
+    }
 
     /// A new request joins those asked, behind the others.
     ghost notes: { (a b : Self) (question : Question) (answer : Asked) → answers a question answer b → answer ≢ Memory → asked b ≡ asked_with question (asked a) };

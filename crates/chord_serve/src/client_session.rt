@@ -1,12 +1,16 @@
 //! What a client's session has beyond its connections.
-ghost use Rattle.std.specs.Prelude.{◌≡◌, None, Some};
+ghost use Rattle.std.specs.Prelude.{◌≡◌, ◌≢◌, None, Some, IfOk, IfSome, OnOk};
 ghost use Rattle.chord_wire.specs.Spelling.{IsWireRequest};
 ghost use Rattle.chord_session.specs.Session.{first_state, last_number, bytes_held};
-ghost use Rattle.chord_serve.specs.Steps.{Deals};
+ghost use Rattle.chord_serve.specs.Output.{after_answer, frame_of};
+ghost use Rattle.chord_serve.specs.Question.{IsAnswer};
+ghost use Rattle.chord_serve.specs.Steps.{Begins, Deals, IsKept};
+ghost use Rattle.chord_serve.specs.Writes.{Joins};
+ghost use Rattle.chord_serve.specs.declared.asker.Asked.TheVariants.{Memory};
 
-use crate::asker::Asker;
+use crate::asker::{Asked, Asker};
 use crate::due::Due;
-use crate::step::answer_one;
+use crate::step::{begin_one, tell};
 use chord_session::Session;
 use chord_wire::WireRequest;
 use std::alloc::{AllocError, Global};
@@ -94,7 +98,47 @@ impl<A: Asker> ClientSession<A> {
         ensures deals { Deals A.answers result self.old.numbers self.old.asker wire due.old due.new self.new.numbers self.new.asker }
         ensures version { self.new.version ≡ Some wire.version }
     {
+        let number = wire.number;
+        match self.begin(alloc, due, wire)? {
+            None => Ok(()),
+            Some(answer) => self.tell(alloc, due, number, answer),
+        }
+    }
+
+    /// Lets a request in, and asks what it calls for. None if no question is to be asked: what is to
+    /// be written for it is added to the output.
+    pub(crate) fn begin(
+        &mut self,
+        alloc: Global,
+        due: &mut Due,
+        wire: WireRequest,
+    ) -> Result<Option<Asked>, AllocError>
+        requires { IsWireRequest wire }
+        ensures begins { Begins A.answers result self.old.numbers self.old.asker wire due.old due.new self.new.numbers self.new.asker }
+        ensures version { self.new.version ≡ Some wire.version }
+        ensures fits { IfOk result (λ asked. IfSome asked IsAnswer) }
+        ensures kept { IfOk result (λ asked. IfSome asked (λ _. IsKept wire.number self.new.numbers)) }
+    {
         self.version = Some(wire.version);
-        answer_one(alloc, &mut self.numbers, due, &mut self.asker, wire)
+        begin_one(alloc, &mut self.numbers, due, &mut self.asker, wire)
+    }
+
+    /// Adds the frame of an answer to the output, and stores the frame of a reply.
+    pub(crate) fn tell(
+        &mut self,
+        alloc: Global,
+        due: &mut Due,
+        number: u64,
+        answer: Asked,
+    ) -> Result<(), AllocError>
+        requires fits { IsAnswer answer }
+        requires kept { IsKept number self.old.numbers }
+        ensures due { Joins result due.old due.new (frame_of number answer) }
+        ensures told { OnOk result (self.new ≡ record self.old { numbers = after_answer self.old.numbers number answer }) }
+        ensures asker { self.new.asker ≡ self.old.asker }
+        ensures version { self.new.version ≡ self.old.version }
+        ensures answered { OnOk result (answer ≢ Memory) }
+    {
+        tell(alloc, &mut self.numbers, due, number, answer)
     }
 }

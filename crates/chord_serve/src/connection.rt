@@ -15,13 +15,13 @@ use chord_wire::{FaultCode, SessionFrame, SessionFrames, WireFault, write_closed
 use std::alloc::{AllocError, Global};
 
 // A request of another version than the first one.
-const BAD_VERSION: WireFault = WireFault {
+pub(crate) const BAD_VERSION: WireFault = WireFault {
     code: FaultCode::BadVersion,
     number: 0,
 };
 
 // An open behind the first frame, or a close without a session.
-const OUT_OF_PLACE: WireFault = WireFault {
+pub(crate) const OUT_OF_PLACE: WireFault = WireFault {
     code: FaultCode::OutOfPlace,
     number: 0,
 };
@@ -38,7 +38,7 @@ pub struct Connection<A> {
 }
 
 // Ends a session with a fault, whose frame is added to the output.
-fn refuse(alloc: Global, due: &mut Due, fault: WireFault) -> Served
+pub(crate) fn refuse(alloc: Global, due: &mut Due, fault: WireFault) -> Served
     requires { fault.code ≢ FaultCode.Memory }
     ensures due { TellsFault result fault due.old due.new }
     ensures stop { IsStop result }
@@ -53,7 +53,7 @@ fn refuse(alloc: Global, due: &mut Due, fault: WireFault) -> Served
 }
 
 // Whether the version differs from the first one.
-fn is_other(first: Option<u8>, version: u8) -> bool
+pub(crate) fn is_other(first: Option<u8>, version: u8) -> bool
     ensures { result ≡ is_other first version }
 {
     match first {
@@ -63,7 +63,7 @@ fn is_other(first: Option<u8>, version: u8) -> bool
 }
 
 // Ends a session that its client closed; the frame that says so is added to the output.
-fn close(alloc: Global, due: &mut Due) -> Served
+pub(crate) fn close(alloc: Global, due: &mut Due) -> Served
     ensures due { TellsClosed result due.old due.new }
     ensures stop { IsStop result }
 {

@@ -1,5 +1,5 @@
 //! What holds of all sessions. These functions have no code; their contracts are the laws.
-ghost use Rattle.std.specs.Prelude.{◌≡◌, ◌+◌, ◌++◌, ℕ, List, [], length, Option, None};
+ghost use Rattle.std.specs.Prelude.{◌≡◌, ◌+◌, ◌++◌, ℕ, List, [], length, Option, None, false};
 ghost use Rattle.std.specs.List.{AllByRecursion};
 ghost use Rattle.chord_wire.specs.declared.request.WireRequest.{WireRequest};
 ghost use Rattle.chord_wire.specs.Spelling.{IsWireRequest};
@@ -8,12 +8,19 @@ ghost use Rattle.chord_session.specs.Session.{first_state, last_number};
 ghost use Rattle.chord_session.specs.SessionState.{SessionState};
 ghost use Rattle.chord_serve.specs.declared.asker.Asked.{Asked};
 ghost use Rattle.chord_serve.specs.Question.{Question};
-ghost use Rattle.chord_serve.specs.Served.{Dealt};
+ghost use Rattle.chord_serve.specs.Served.{Dealt, IsParted};
+ghost use Rattle.chord_serve.specs.Framing.{FrameStands};
+ghost use Rattle.chord_serve.specs.Parting.{parted_as};
+ghost use Rattle.chord_serve.specs.declared.link.stage.Stage.{Stage};
+ghost use Rattle.chord_serve.specs.declared.link.stage.Stage.TheVariants.{Over};
+ghost use Rattle.chord_serve.specs.declared.served.Served.{Served as ServedOf};
+ghost use Rattle.chord_serve.specs.declared.served.Served.TheVariants.{Write};
 ghost use Rattle.chord_serve.specs.Lasting.{InARow, AreOneSession};
 ghost use Rattle.chord_serve.specs.Output.{questions, state_after, asked_anew, answered_requests, AreAnswers, IsPaired};
 
 use crate::asker::Asker;
 use crate::client_session::ClientSession;
+use crate::frame_protocol::FrameProtocol;
 use chord_wire::laws::one_reading;
 
 /// Connections in a row are one session: the requests of all of them together are asked once each,
@@ -46,3 +53,17 @@ pub fn one_output<A: Asker>()
 {
     one_reading();
 }
+
+/// A link that speaks in frames serves its connection, whatever drives it, in whichever thread. At
+/// each end of it this is what it read and answered, and what is left of its session. Where it is
+/// let go before all is written, be it in the middle of a request, it wrote a prefix of that.
+pub fn links_are_served<A: Asker>()
+    ensures ended { (first last : FrameProtocol A) (end : ServedOf) (input output : List ℕ) → first.is_over ≡ false
+        → FrameStands A.answers (Over end) first input output last
+        → IsParted A.answers first.is_opened end first.client.version first.client.numbers first.client.asker
+        (first.frames ++ input) output (parted_as last.is_over last.client) }
+    ensures lost { (first last : FrameProtocol A) (stage : Stage) (input sent due : List ℕ) → first.is_over ≡ false
+        → FrameStands A.answers stage first input (sent ++ due) last
+        → IsParted A.answers first.is_opened Write first.client.version first.client.numbers first.client.asker
+        (first.frames ++ input) sent (parted_as last.is_over last.client) }
+{}

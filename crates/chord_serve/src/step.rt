@@ -1,10 +1,9 @@
 //! One request of a session.
-ghost use Rattle.std.specs.Prelude.{◌≡◌, ◌≢◌, ◌<◌, ◌≤◌, OnOk};
+ghost use Rattle.std.specs.Prelude.{◌≡◌, ◌≢◌, OnOk, IfOk, IfSome};
 ghost use Rattle.chord_wire.specs.Spelling.{IsWireRequest};
-ghost use Rattle.chord_session.specs.Session.{last_number};
 ghost use Rattle.chord_serve.specs.Question.{IsAnswer};
 ghost use Rattle.chord_serve.specs.Output.{frame_of, after_answer};
-ghost use Rattle.chord_serve.specs.Steps.{Deals};
+ghost use Rattle.chord_serve.specs.Steps.{Begins, IsKept};
 ghost use Rattle.chord_serve.specs.Writes.{Joins};
 ghost use Rattle.chord_serve.specs.declared.asker.Asked.TheVariants as asked;
 
@@ -16,7 +15,7 @@ use chord_wire::{FaultCode, WireRequest, write_fault, write_reply};
 use std::alloc::{AllocError, Global};
 
 // Adds the frame of an answer to the output, and stores the frame of a reply.
-fn tell(
+pub(crate) fn tell(
     alloc: Global,
     session: &mut Session,
     due: &mut Due,
@@ -24,8 +23,7 @@ fn tell(
     answer: Asked,
 ) -> Result<(), AllocError>
     requires fits { IsAnswer answer }
-    requires above { session.old.floor < number }
-    requires kept { number ≤ last_number session.old }
+    requires kept { IsKept number session.old }
     ensures due { Joins result due.old due.new (frame_of number answer) }
     ensures told { OnOk result (session.new ≡ after_answer session.old number answer) }
     ensures answered { OnOk result (answer ≢ asked.Memory) }
@@ -49,36 +47,43 @@ fn tell(
     }
 }
 
-/// Does what one request calls for, and adds what is to be written for it to the output.
-pub fn answer_one<A: Asker>(
+/// Lets a request in, and asks what it calls for. None if no question is to be asked: what is to be
+/// written for it is added to the output.
+pub(crate) fn begin_one<A: Asker>(
     alloc: Global,
     session: &mut Session,
     due: &mut Due,
     asker: &mut A,
     wire: WireRequest,
-) -> Result<(), AllocError>
+) -> Result<Option<Asked>, AllocError>
     requires { IsWireRequest wire }
-    ensures { Deals A.answers result session.old asker.old wire due.old due.new session.new asker.new }
+    ensures begins { Begins A.answers result session.old asker.old wire due.old due.new session.new asker.new }
+    ensures fits { IfOk result (λ asked. IfSome asked IsAnswer) }
+    ensures kept { IfOk result (λ asked. IfSome asked (λ _. IsKept wire.number session.new)) }
 {
     let number = wire.number;
     match session.accept(&wire) {
         Move::Refuse(code) => {
             asker.refuse();
             let frame = write_fault(alloc, number, code)?;
-            due.add(&frame)
+            due.add(&frame)?;
+            Ok(None)
         }
         Move::Again => match session.frame_of(number) {
-            Some(frame) => due.add(frame.as_slice()),
+            Some(frame) => {
+                due.add(frame.as_slice())?;
+                Ok(None)
+            }
             None => unreachable!(),
         },
         Move::Ask => {
             session.add(wire.request)?;
             let answer = asker.ask(session.newest(), session.floor());
-            tell(alloc, session, due, number, answer)
+            Ok(Some(answer))
         }
         Move::Retry => {
             let answer = asker.retry(number, session.floor());
-            tell(alloc, session, due, number, answer)
+            Ok(Some(answer))
         }
     }
 }

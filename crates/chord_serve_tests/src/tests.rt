@@ -9,6 +9,7 @@ mod greetings;
 mod growths;
 mod in_flight;
 mod kept_sessions;
+mod links;
 mod resumed;
 mod script;
 mod session_table;
