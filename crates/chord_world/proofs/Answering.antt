@@ -1,12 +1,11 @@
 -- Messages that are delivered.
-use Rattle.std.proofs.Common.{◌≡◌, ℕ, ◌<◌, ◌≤◌, ⊎_elim, inl, inr, Bool, true, false, cond, Option, None, Some, Result, Ok, Err, List, length, set, get_or, refl, sym, ◌∙◌, ap, subst, arith}
+use Rattle.std.proofs.Common.{◌≡◌, ℕ, ◌<◌, ◌≤◌, ⊎_elim, inl, inr, Bool, true, false, cond, Option, None, Some, Ok, List, length, get_or, refl, sym, ◌∙◌, ap, subst, arith}
 use Rattle.std.proofs.lemmas.Option.{slice_get_past, slice_get_within, get_or_from_slice_get, slice_get_cases}
 use Rattle.std.proofs.lemmas.List.{length-map}
 use Rattle.std.specs.Prelude.{slice_get, Contains}
-use Rattle.std.specs.declared.alloc.AllocError.{AllocError}
 use Rattle.chord_map.specs.declared.reply.Reply.{Reply}
 use Rattle.chord_map.specs.declared.done.Done.{Done}
-use Rattle.chord_segment.specs.Segment.{Segment, Past, id_of, past_at}
+use Rattle.chord_segment.specs.Segment.{Segment, Past, past_at}
 use Rattle.chord_segment.specs.Segment.Past.{New, Kept, Seen}
 use Rattle.chord_caller.specs.declared.ask.Ask.{Ask}
 use Rattle.chord_caller.specs.declared.told.Told.{Told}
@@ -22,25 +21,23 @@ use Rattle.chord_node.specs.declared.asks.answered.Answered.TheVariants as answe
 use Rattle.chord_model.specs.declared.message.Message.{Message}
 use Rattle.chord_model.specs.declared.message.Message.TheVariants.{Ask as AskMessage, Told as ToldMessage, Full as FullMessage}
 use Rattle.chord_model.specs.Headline.{Headline, request_with, submitted_by, answers}
-use Rattle.chord_model.specs.Node.{Node, segment_with}
-use Rattle.chord_node.specs.Asked.{AskIs, AskRecords, AnswersBy, ask_done, after_done, past_answer, is_full_for, sent_by}
-use Rattle.chord_model.specs.World.{WorldStep, put_node, caller_at, put_caller, with_one}
+use Rattle.chord_model.specs.Node.{Node}
+use Rattle.chord_node.specs.Asked.{AskIs, AnswersBy, ask_done, after_done, past_answer, is_full_for, sent_by}
+use Rattle.chord_model.specs.World.{WorldStep, caller_at, put_caller, with_one}
 use Rattle.chord_model.specs.World.WorldStep.{Calls}
-use Rattle.chord_node.proofs.Asking.{asked_steps}
 use Rattle.chord_world.specs.declared.sent.Sent.{Sent}
 use Rattle.chord_world.specs.State.{WorldState, messages_of, targets_of, with_heard, AreAimed, IsWorld, is_crashed}
-use Rattle.chord_world.specs.Members.{is_gone}
-use Rattle.chord_world.specs.Delivered.{target_of, outcome_of, outcome_heard, with_answer, IsAstray, IsForCrashed, TakesMemory, Delivers}
-use Rattle.chord_world.specs.Delivered.TakesMemory.{Ask_takes}
-use Rattle.chord_world.specs.Delivered.Delivers.{To_node, To_caller, Full_to_caller}
+use Rattle.chord_world.specs.Taking.{target_of}
+use Rattle.chord_world.specs.Delivered.{outcome_heard, IsAstray, IsForCrashed, Delivers}
+use Rattle.chord_world.specs.Delivered.Delivers.{To_caller, Full_to_caller}
 use Rattle.chord_world.specs.Delivered.IsFor.{Ask_for}
 use Rattle.chord_world.specs.declared.outcome.Outcome.{Outcome}
 use Rattle.chord_world.specs.declared.outcome.Outcome.TheVariants as did
-use Rattle.chord_world.specs.Delivering.{Answers, AnswersAt, CallAnswered, HearsAt, IsOwed, IsReceiver, message_by}
+use Rattle.chord_world.specs.Delivering.{HearsAt, IsOwed, IsReceiver, message_by}
 use Rattle.chord_world.proofs.Placing.{nodes_by, callers_by, call_at, aimed_pushed, aimed_at}
 use Rattle.chord_world.proofs.Keeping.{with_callers}
-use Rattle.chord_world.proofs.Acting.{After, SendsCall, ring_stays, acts_at}
-use Rattle.chord_world.proofs.Posting.{got, got_of, set_same, slice_get_there}
+use Rattle.chord_world.proofs.Acting.{SendsCall}
+use Rattle.chord_world.proofs.Posting.{got_of, set_same}
 use Rattle.chord_world.proofs.Speaking.{heard_is_world}
 
 -- the message at an index was sent
@@ -75,72 +72,23 @@ pass_call : (nodes count : ℕ) (ask passed : Ask) (to : ℕ) (spent : Bool) →
 pass_call nodes count ask passed to true same within = tt
 pass_call nodes count ask passed to false same within = omega arith
 
-answer_call : (nodes count : ℕ) (ask : Ask) (node : Node) (answered : Answered) (o : Option Segment) → AnswersBy o ask node answered → ask.caller < count → SendsCall nodes count (sent_by ask answered)
+pub answer_call : (nodes count : ℕ) (ask : Ask) (node : Node) (answered : Answered) (o : Option Segment) → AnswersBy o ask node answered → ask.caller < count → SendsCall nodes count (sent_by ask answered)
 answer_call nodes count ask node answered None (hop, next, is) within = subst (λ a. SendsCall nodes count (sent_by ask a)) (sym is) (pass_call nodes count ask _ _ _ refl within)
 answer_call nodes count ask node answered (Some segment) is within = subst (λ a. SendsCall nodes count (sent_by ask a)) (sym is) (past_call nodes count ask node (past_at ask.caller ask.number segment) within)
 
-answer_aimed : (sent : List Message) (targets : List (Option ℕ)) (ask : Ask) (answered : Answered) → AreAimed sent targets → AreAimed (with_one sent (sent_by ask answered)) (with_one targets (target_of answered))
+pub answer_aimed : (sent : List Message) (targets : List (Option ℕ)) (ask : Ask) (answered : Answered) → AreAimed sent targets → AreAimed (with_one sent (sent_by ask answered)) (with_one targets (target_of answered))
 answer_aimed sent targets ask (answer.Told told) all = aimed_pushed sent targets (ToldMessage told) None all tt
 answer_aimed sent targets ask (answer.Forward to passed) all = aimed_pushed sent targets (AskMessage passed) (Some to) all tt
 answer_aimed sent targets ask answer.Dropped all = all
 answer_aimed sent targets ask answer.Full all = aimed_pushed sent targets (FullMessage ask.caller ask.number) None all tt
 
--- a delivered call, by what the node at this index answered
-pub record Asked (place to : ℕ) (ask : Ask) (view : WorldState) (answered : Answered) (node after : Node) : Type 0 where
-  pub sent : slice_get view.world.sent place ≡ Some (AskMessage ask)
-  pub target : slice_get view.targets place ≡ Some (Some to)
-  pub here : slice_get view.world.nodes to ≡ Some node
-  pub answers : AskIs ask node (Ok answered) after
-
-done_phase : (did : Option Done) (ask : Ask) (node : Node) → (after_done did ask node).phase ≡ node.phase
+pub done_phase : (did : Option Done) (ask : Ask) (node : Node) → (after_done did ask node).phase ≡ node.phase
 done_phase None ask node = refl
 done_phase (Some done) ask node = refl
 
-done_links : (did : Option Done) (ask : Ask) (node : Node) → (after_done did ask node).links ≡ node.links
+pub done_links : (did : Option Done) (ask : Ask) (node : Node) → (after_done did ask node).links ≡ node.links
 done_links None ask node = refl
 done_links (Some done) ask node = refl
-
-pub answer_after : (place to : ℕ) (ask : Ask) (view old : WorldState) (answered : Answered) (node after : Node) (new : WorldState) → view ≡ old → IsWorld view → Asked place to ask view answered node after
-    → is_crashed to old ≡ false → new ≡ with_answer ask node after answered view → After old new
-answer_after place to ask view old answered node after new same kept asked running is =
-    acts_at to node after (Some (AskMessage ask)) (sent_by ask answered) (target_of answered) (ask_done ask node) view old new same kept
-    (record {
-      here = asked.here;
-      running = ap (is_crashed to) same ∙ running;
-      number = answered_number ask node after answered asked.answers;
-      was = was_sent view.world.sent place (AskMessage ask) asked.sent;
-      does = asked_steps ask node (Ok answered) after asked.answers;
-      call = answer_call (length view.world.nodes) (length view.world.callers) ask node answered (segment_with (id_of ask.request) node.held) asked.answers.0
-          (call_at (length view.world.nodes) (length view.world.callers) view.world.sent place (AskMessage ask) kept.calls asked.sent);
-      aimed = answer_aimed view.world.sent view.targets ask answered kept.targets;
-      ring = ring_stays to node after view kept asked.here
-          (ap (λ (n : Node). is_gone n.phase) asked.answers.1 ∙ ap is_gone (done_phase (ask_done ask node) ask node))
-          (ap (λ (n : Node). n.links) asked.answers.1 ∙ done_links (ask_done ask node) ask node);
-    })
-    is
-
-pub answer_delivers : (place to : ℕ) (ask : Ask) (view old : WorldState) (answered : Answered) (node after : Node) → view ≡ old → IsWorld view → Asked place to ask view answered node after
-    → is_crashed to old ≡ false → Delivers place old (outcome_of answered (length view.world.sent)) (with_answer ask node after answered view)
-answer_delivers place to ask view old answered node after same kept asked running =
-    subst (λ (w : WorldState). Delivers place w (outcome_of answered (length view.world.sent)) (with_answer ask node after answered view)) same
-    (To_node ask to node after answered asked.sent asked.target (nodes_by.found 0 to to view.world.nodes kept.nodes (omega arith) ∙ asked.here)
-    (ap (is_crashed to) same ∙ running) asked.answers)
-
--- restated in the terms of the code
-abbrev pub after_answer : List Node → List Message → List Done → List (Option ℕ) → WorldState → WorldState
-after_answer nodes sent history targets view = record view { world = record view.world { nodes = nodes; sent = sent; history = history }; targets = targets }
-
-pub answered_is : (place to : ℕ) (ask : Ask) (view : WorldState) (answered : Answered) (did : Option Done) (nodes : List Node) (sent before : List Message) (history earlier : List Done) (targets known : List (Option ℕ))
-    → IsWorld view → (done : Answers to ask view.world.nodes answered did nodes) → sent ≡ with_one before (message_by ask.caller ask.number answered) → before ≡ view.world.sent
-    → history ≡ with_one earlier did → earlier ≡ view.world.history → targets ≡ with_one known (target_of answered) → known ≡ view.targets
-    → after_answer nodes sent history targets view ≡ with_answer ask done.node done.after answered view
-answered_is place to ask view answered did nodes sent before history earlier targets known kept done s s' h h' t t' =
-    let at = answered_number ask done.node done.after answered done.answers.0 ∙ nodes_by.number 0 to done.node view.world.nodes kept.nodes done.here in
-    let put : nodes ≡ put_node done.after view.world.nodes = done.new_is ∙ sym (nodes_by.put_is 0 to done.after view.world.nodes kept.nodes at) in
-    let messages : sent ≡ with_one view.world.sent (sent_by ask answered) = s ∙ ap (λ xs. with_one xs (message_by ask.caller ask.number answered)) s' ∙ ap (with_one view.world.sent) (message_is ask answered) in
-    let noted : history ≡ with_one view.world.history (ask_done ask done.node) = h ∙ ap (λ xs. with_one xs did) h' ∙ ap (with_one view.world.history) done.answers.1 in
-    let nodes_of : targets ≡ with_one view.targets (target_of answered) = t ∙ ap (λ xs. with_one xs (target_of answered)) t' in
-    λ i. after_answer (put i) (messages i) (noted i) (nodes_of i) view
 
 -- ---- a reply at its caller
 
@@ -225,13 +173,6 @@ full_step place caller number view old same kept sent =
 
 -- ---- in the words of the code
 
-pub answers_from : (place : ℕ) (ask : Ask) (old : List Node) (node after : Node) (result : Result (Answered × Option Done) AllocError) (new : List Node) → place < length old → node ≡ get_or old place node
-    → AskRecords ask true node result after → new ≡ set old place after → AnswersAt place ask old result new
-answers_from place ask old node after (Ok both) new within here h is =
-    record { node = node; after = after; here = got old place node within here; answers = h; new_is = is }
-answers_from place ask old node after (Err fault) new within here h is =
-    is ∙ ap (set old place) h.1 ∙ set_same old place node (got old place node within here)
-
 -- an index with a message is within the list of those sent
 pub place_within : (items before : List Sent) (place : ℕ) (message : Message) → items ≡ before → slice_get (messages_of before) place ≡ Some message → place < length items
 place_within items before place message same here =
@@ -291,11 +232,6 @@ for_crashed place to ask node view old same kept sent target here out =
       crashed = ap (is_crashed to) same ∙ out;
     })
 
--- the calls that are delivered
-pub asked_of : (place to : ℕ) (ask : Ask) (view : WorldState) (answered : Answered) (did : Option Done) (nodes : List Node) → slice_get view.world.sent place ≡ Some (AskMessage ask)
-    → slice_get view.targets place ≡ Some (Some to) → (done : Answers to ask view.world.nodes answered did nodes) → Asked place to ask view answered done.node done.after
-asked_of place to ask view answered did nodes sent target done = record { sent = sent; target = target; here = done.here; answers = done.answers.0 }
-
 pub world_after : (view new next : WorldState) → new ≡ next → IsWorld next → IsWorld new
 world_after view new next e h = subst IsWorld (sym e) h
 
@@ -314,20 +250,6 @@ delivers_after place old new next outcome outcome' e f h =
 pub told_copy : (told : Told) (reply : Reply) → reply ≡ told.reply → ◌≡◌ {A = Told} (record { caller = told.caller; number = told.number; reply = reply }) told
 told_copy told reply e = λ i. record { caller = told.caller; number = told.number; reply = e i }
 
-pub same_fields : (view : WorldState) (nodes : List Node) (sent : List Message) (history : List Done) (targets : List (Option ℕ)) → nodes ≡ view.world.nodes → sent ≡ view.world.sent
-    → history ≡ view.world.history → targets ≡ view.targets → after_answer nodes sent history targets view ≡ view
-same_fields view nodes sent history targets n s h t = λ i. after_answer (n i) (s i) (h i) (t i) view
-
--- memory ran out for a message that needs some
-pub stays : (view old new : WorldState) (place : ℕ) → view ≡ old → TakesMemory place view → new ≡ view → TakesMemory place old × (new ≡ old)
-stays view old new place same takes e = (subst (TakesMemory place) same takes, e ∙ same)
-
-pub ask_takes : (place to : ℕ) (ask : Ask) (view old : WorldState) → view ≡ old → IsWorld view → slice_get view.world.sent place ≡ Some (AskMessage ask)
-    → slice_get view.targets place ≡ Some (Some to) → to < length view.world.nodes → is_crashed to old ≡ false → TakesMemory place view
-ask_takes place to ask view old same kept sent target within running =
-    let found = slice_get_there view.world.nodes to within in
-    Ask_takes ask to found.0 sent target (nodes_by.found 0 to to view.world.nodes kept.nodes (omega arith) ∙ found.1) (ap (is_crashed to) same ∙ running)
-
 pub told_to : (place : ℕ) (told : Told) (view : WorldState) (heard : Heard) (callers : List Caller) → slice_get view.world.sent place ≡ Some (ToldMessage told)
     → (did : HearsAt told.caller told view.world.callers (Ok heard) callers) → ToldTo place told view heard did.core did.after
 told_to place told view heard callers sent did = record { sent = sent; here = did.here; hears = did.does }
@@ -343,42 +265,3 @@ is_receiver place to view old same target there running = record {
 
 pub receiver_there : (place to : ℕ) (view old : WorldState) → view ≡ old → IsReceiver place to old → to < length view.world.nodes
 receiver_there place to view old same receiver = subst (λ (w : WorldState). to < length w.world.nodes) (sym same) receiver.there
-
-receiver_target : (place to : ℕ) (view old : WorldState) → view ≡ old → IsReceiver place to old → slice_get view.targets place ≡ Some (Some to)
-receiver_target place to view old same receiver = ap (λ (w : WorldState). slice_get w.targets place) same ∙ receiver.target
-
-call_asked : (place to : ℕ) (view old : WorldState) (outcome : Outcome) (nodes : List Node) (sent : List Message) (targets : List (Option ℕ)) (history : List Done) → view ≡ old → IsReceiver place to old
-    → (did : CallAnswered place to view.world.nodes view.world.sent view.targets view.world.history outcome nodes sent targets history)
-    → Asked place to did.ask view did.answered did.answers.node did.answers.after
-call_asked place to view old outcome nodes sent targets history same receiver did =
-    asked_of place to did.ask view did.answered did.did nodes did.call (receiver_target place to view old same receiver) did.answers
-
-call_is : (place to : ℕ) (view : WorldState) (outcome : Outcome) (nodes : List Node) (sent : List Message) (targets : List (Option ℕ)) (history : List Done) → IsWorld view
-    → (did : CallAnswered place to view.world.nodes view.world.sent view.targets view.world.history outcome nodes sent targets history)
-    → after_answer nodes sent history targets view ≡ with_answer did.ask did.answers.node did.answers.after did.answered view
-call_is place to view outcome nodes sent targets history kept did =
-    answered_is place to did.ask view did.answered did.did nodes sent view.world.sent history view.world.history targets view.targets kept did.answers did.messages_are refl did.noted refl did.targets_are refl
-
-pub call_after : (place to : ℕ) (view old : WorldState) (outcome : Outcome) (nodes : List Node) (sent : List Message) (targets : List (Option ℕ)) (history : List Done) → view ≡ old → IsWorld view → IsReceiver place to old
-    → CallAnswered place to view.world.nodes view.world.sent view.targets view.world.history outcome nodes sent targets history → After old (after_answer nodes sent history targets view)
-call_after place to view old outcome nodes sent targets history same kept receiver did =
-    answer_after place to did.ask view old did.answered did.answers.node did.answers.after _ same kept (call_asked place to view old outcome nodes sent targets history same receiver did) receiver.running
-    (call_is place to view outcome nodes sent targets history kept did)
-
-pub call_delivers : (place to : ℕ) (view old : WorldState) (outcome : Outcome) (nodes : List Node) (sent : List Message) (targets : List (Option ℕ)) (history : List Done) → view ≡ old → IsWorld view → IsReceiver place to old
-    → CallAnswered place to view.world.nodes view.world.sent view.targets view.world.history outcome nodes sent targets history → Delivers place old outcome (after_answer nodes sent history targets view)
-call_delivers place to view old outcome nodes sent targets history same kept receiver did =
-    delivers_after place old _ _ outcome _ (call_is place to view outcome nodes sent targets history kept did) did.outcome_is
-    (answer_delivers place to did.ask view old did.answered did.answers.node did.answers.after same kept (call_asked place to view old outcome nodes sent targets history same receiver did) receiver.running)
-
--- memory ran out for it
-pub call_same : (view : WorldState) (nodes : List Node) (sent : List Message) (targets : List (Option ℕ)) (history : List Done)
-    → (nodes ≡ view.world.nodes) × (sent ≡ view.world.sent) × (targets ≡ view.targets) × (history ≡ view.world.history) → after_answer nodes sent history targets view ≡ view
-call_same view nodes sent targets history (n, s, t, h) = same_fields view nodes sent history targets n s h t
-
-pub call_stays : (place to : ℕ) (ask : Ask) (view old new : WorldState) → view ≡ old → IsWorld view → IsReceiver place to old → slice_get old.world.sent place ≡ Some (AskMessage ask) → new ≡ view
-    → TakesMemory place old × (new ≡ old)
-call_stays place to ask view old new same kept receiver sent stayed =
-    stays view old new place same
-    (ask_takes place to ask view old same kept (sent_here view old place (AskMessage ask) same sent) (receiver_target place to view old same receiver) (receiver_there place to view old same receiver) receiver.running)
-    stayed

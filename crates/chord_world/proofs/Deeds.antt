@@ -2,12 +2,17 @@
 use Rattle.std.proofs.Common.{◌≡◌, ℕ, ◌<◌, ◌⊎◌, inl, inr, false, Option, None, Some, Result, Ok, Err, List, length, set, refl, sym, ◌∙◌, ap, subst}
 use Rattle.std.specs.Prelude.{slice_get, IsErrAnd, Contains}
 use Rattle.std.proofs.lemmas.Option.{none-some}
+use Rattle.chord_caller.specs.declared.ask.Ask.{Ask}
+use Rattle.chord_segment.specs.Segment.{id_of}
+use Rattle.chord_model.specs.Node.{segment_with}
+use Rattle.chord_node.specs.Asked.{ask_done}
+use Rattle.chord_world.specs.Delivering.{IsReceiver}
 use Rattle.chord_handover.specs.declared.ticket.Ticket.{Ticket}
 use Rattle.chord_handover.specs.Handover.{Part, item_at}
 use Rattle.chord_handover.specs.Outbox.{payload_of}
 use Rattle.chord_ring.proofs.Stepping.{Kept}
 use Rattle.chord_model.specs.declared.message.Message.{Message}
-use Rattle.chord_model.specs.declared.message.Message.TheVariants.{Part as PartMessage, Got as GotMessage, Declined as DeclinedMessage}
+use Rattle.chord_model.specs.declared.message.Message.TheVariants.{Ask as AskMessage, Part as PartMessage, Got as GotMessage, Declined as DeclinedMessage}
 use Rattle.chord_model.specs.Node.{Node, NodeStep}
 use Rattle.chord_model.specs.World.{World, Reached, WasSent, node_at, with_one}
 use Rattle.chord_node.specs.declared.handovers.part_answer.PartAnswer.TheVariants as given
@@ -20,22 +25,21 @@ use Rattle.chord_world.specs.declared.outcome.Outcome.{Outcome}
 use Rattle.chord_world.specs.declared.refusal.Refusal.{Refusal}
 use Rattle.chord_world.specs.declared.refusal.Refusal.TheVariants.{Memory as NoMemory}
 use Rattle.chord_world.specs.Linking.{IsFinger, with_finger_at}
-use Rattle.chord_world.specs.Deeds.{FingerIs, TakesPart, RefusedBy, NodeDoes, NodeRefuses, NodeFits, DoesDeed, RefusesIt, RefusesDeed, DeedIs, Fits, DidBy, DoesIt, DoesItAt, taken_by}
+use Rattle.chord_world.specs.Deeds.{Effect, Log, says, with_effect, log_in, AnswersCall, FingerIs, TakesPart, RefusedBy, NodeDoes, NodeRefuses, NodeFits, DoesDeed, RefusesIt, RefusesDeed, DeedIs, Fits, DidBy, DoesIt, DoesItAt, taken_by}
 use Rattle.chord_world.specs.Delivered.{IsFor, Delivers, RefusesDeliver, DeliverIs}
-use Rattle.chord_world.specs.Delivered.IsFor.{Part_for, Got_for, Declined_for}
-use Rattle.chord_world.specs.Delivered.TakesMemory.{Part_takes, Declined_takes}
-use Rattle.chord_world.specs.Delivered.Delivers.{Part_to_node, Got_to_node, Declined_to_node}
+use Rattle.chord_world.specs.Delivered.IsFor.{Ask_for, Part_for, Got_for, Declined_for}
+use Rattle.chord_world.specs.Delivered.TakesMemory.{Ask_takes, Part_takes, Declined_takes}
+use Rattle.chord_world.specs.Delivered.Delivers.{To_node, Part_to_node, Got_to_node, Declined_to_node}
 use Rattle.chord_world.specs.Handing.{Call, IsMissing, HasNode, CanAct, CannotAct, NeededIs}
 use Rattle.chord_world.specs.Handing.IsMissing.{Uncreated, Missing}
 use Rattle.chord_world.specs.Handing.CannotAct.{Is_missing, Is_crashed}
 use Rattle.chord_ring.specs.Ring.{CanDepart}
-use Rattle.chord_world.specs.Members.{is_dead, ring_with}
+use Rattle.chord_world.specs.Members.{is_dead, is_gone, ring_with}
 use Rattle.chord_world.specs.Refusals.{DoneOrRefused}
 use Rattle.chord_world.specs.State.{WorldState, AreAimed, IsWorld, ring_of, fate_of, is_crashed, KeepsRing}
 use Rattle.chord_world.specs.Steps.{Advances}
-use Rattle.chord_world.specs.Taking.{no_target, with_reply}
 use Rattle.chord_world.proofs.Acting.{SendsCall, acts_at, keeps_same, ring_stays, put_is}
-use Rattle.chord_world.proofs.Answering.{was_sent, sent_here}
+use Rattle.chord_world.proofs.Answering.{was_sent, sent_here, answered_number, answer_call, answer_aimed, done_phase, done_links, receiver_there}
 use Rattle.chord_world.proofs.Handing.{IsStill, has_node, acts_within, still_same, still_cut, still_merge, still_leave, still_give, give_ends, resent_ends, part_known, leaving_member, can_of}
 use Rattle.chord_world.proofs.Placing.{call_at, aimed_pushed}
 use Rattle.chord_world.proofs.Pointing.{node_stands, pointed_ring}
@@ -46,14 +50,13 @@ use Rattle.chord_world.proofs.Upkeeping.{retired, retired_ring}
 -- ---- the node
 
 -- a change that was done
-pub changed : (self is : NodeDeed) (node after : Node) (sent : List Message) (targets : List
-    (Option ℕ))
-    (outcome : Outcome) → self ≡ is → NodeDoes is node sent outcome after None
-    → NodeStep node (taken_by is sent) after None None
-    → DoesIt self node sent targets (Ok outcome) after sent targets
-changed self is node after sent targets outcome e does steps =
-    subst (λ d. DoesIt d node sent targets (Ok outcome) after sent targets) (sym e)
-    (record { message = None; does = does; steps = steps; messages_are = refl; targets_are = refl })
+pub changed : (self is : NodeDeed) (node after : Node) (log : Log) (outcome : Outcome) → self ≡ is
+    → NodeDoes is node log.sent outcome after (says None)
+    → NodeStep node (taken_by is log.sent) after None None
+    → DoesIt self node log (Ok outcome) after log
+changed self is node after log outcome e does steps =
+    subst (λ d. DoesIt d node log (Ok outcome) after log) (sym e)
+    (record { effect = says None; does = does; steps = steps; log_is = refl })
 
 -- a node that refused and is unchanged
 pub refused_by : {A E : Type 0} (Is : Call (Result A E)) (refusal_of : E
@@ -62,79 +65,81 @@ pub refused_by : {A E : Type 0} (Is : Call (Result A E)) (refusal_of : E
 refused_by Is refusal_of fault node after is same =
     record { fault = fault; is = subst (Is node (Err fault)) same is; told = refl }
 
-pub not_done : (self is : NodeDeed) (node after : Node) (sent sent' : List Message)
-    (targets targets' : List (Option ℕ)) (refusal : Refusal) (result : Result Outcome Refusal)
-    → self ≡ is → NodeRefuses is node refusal → after ≡ node → sent' ≡ sent → targets' ≡ targets
-    → IsErrAnd result (λ e. e ≡ refusal) → DoesIt self node sent targets result after sent' targets'
-not_done self is node after sent sent' targets targets' refusal (Ok outcome) e why a s t told =
-    absurd told
-not_done self is node after sent sent' targets targets' refusal (Err other) e why a s t told = (
+pub not_done : (self is : NodeDeed) (node after : Node) (log log' : Log) (refusal : Refusal)
+    (result : Result Outcome Refusal) → self ≡ is → NodeRefuses is node refusal → after ≡ node
+    → log' ≡ log
+    → IsErrAnd result (λ e. e ≡ refusal) → DoesIt self node log result after log'
+not_done self is node after log log' refusal (Ok outcome) e why a l told = absurd told
+not_done self is node after log log' refusal (Err other) e why a l told = (
   subst (λ d. NodeRefuses d node other) (sym e) (subst (NodeRefuses is node)
       (sym told) why),
   a,
-  s,
-  t,
+  l,
 )
 
 -- ---- what the world sees of it
 
 -- the node keeps its number, its message is one of this world, and the ring stays sound
-pub record Seen (place : ℕ) (node after : Node) (taken message : Option Message)
+pub record Seen (place : ℕ) (node after : Node) (taken : Option Message) (effect : Effect)
     (view : WorldState) : Type 0 where
   pub number : after.number ≡ node.number
   pub was : WasSent view.world.sent taken
-  pub call : SendsCall (length view.world.nodes) (length view.world.callers) message
-  pub aimed : AreAimed (with_one view.world.sent message) (with_one view.targets
-      (no_target message))
+  pub call : SendsCall (length view.world.nodes) (length view.world.callers) effect.message
+  pub aimed : AreAimed (with_one view.world.sent effect.message) (with_one view.targets
+      effect.target)
   pub ring : Kept (ring_of view) (ring_with (set view.world.nodes place after) view.fates)
 
 -- a node that sends nothing
-plain : (place : ℕ) (node after : Node) (taken message : Option Message) (view : WorldState)
+plain : (place : ℕ) (node after : Node) (taken : Option Message) (effect : Effect)
+    (view : WorldState)
     → IsWorld view
     → after.number ≡ node.number → WasSent view.world.sent taken
-    → Kept (ring_of view) (ring_with (set view.world.nodes place after) view.fates) → message ≡ None
-    → Seen place node after taken message view
-plain place node after taken message view kept number was ring e =
+    → Kept (ring_of view) (ring_with (set view.world.nodes place after) view.fates)
+    → effect ≡ says None
+    → Seen place node after taken effect view
+plain place node after taken effect view kept number was ring e =
     subst (λ m. Seen place node after taken m view) (sym e)
     (record { number = number; was = was; call = tt; aimed = kept.targets; ring = ring })
 
-quiet : (place : ℕ) (node after : Node) (taken message : Option Message) (view : WorldState)
+quiet : (place : ℕ) (node after : Node) (taken : Option Message) (effect : Effect)
+    (view : WorldState)
     → IsWorld view
     → slice_get view.world.nodes place ≡ Some node → WasSent view.world.sent taken
     → IsStill node after
-    → message ≡ None → Seen place node after taken message view
-quiet place node after taken message view kept here was still e =
-    plain place node after taken message view kept still.number was
+    → effect ≡ says None → Seen place node after taken effect view
+quiet place node after taken effect view kept here was still e =
+    plain place node after taken effect view kept still.number was
     (ring_stays place node after view kept here still.gone still.links) e
 
 -- the node became this one
-became : (place : ℕ) (node next after : Node) (message : Option Message) (view : WorldState)
+became : (place : ℕ) (node next after : Node) (effect : Effect) (view : WorldState)
     → IsWorld view
     → after ≡ next → next.number ≡ node.number
-    → Kept (ring_of view) (ring_with (set view.world.nodes place next) view.fates) → message ≡ None
-    → Seen place node after None message view
-became place node next after message view kept is number ring e =
-    subst (λ n. Seen place node n None message view) (sym is)
-    (plain place node next None message view kept number tt ring e)
+    → Kept (ring_of view) (ring_with (set view.world.nodes place next) view.fates)
+    → effect ≡ says None
+    → Seen place node after None effect view
+became place node next after effect view kept is number ring e =
+    subst (λ n. Seen place node n None effect view) (sym is)
+    (plain place node next None effect view kept number tt ring e)
 
-gone : (place : ℕ) (node after : Node) (message : Option Message) (view : WorldState) → IsWorld view
+gone : (place : ℕ) (node after : Node) (effect : Effect) (view : WorldState) → IsWorld view
     → slice_get view.world.nodes place ≡ Some node → NeededIs place view false
     → RetireIs node (Ok tt) after
-    → message ≡ None → Seen place node after None message view
-gone place node after message view kept here needed is e =
+    → effect ≡ says None → Seen place node after None effect view
+gone place node after effect view kept here needed is e =
     let can : is_dead (fate_of place view) ≡ false → CanDepart (ring_of view).members place =
     λ alive. can_of place view needed
     (leaving_member place node view view refl kept here alive is.0) in
-    became place node (retired node) after message view kept is.4 refl
+    became place node (retired node) after effect view kept is.4 refl
     (retired_ring place node view kept here can) e
 
-sends : (place to : ℕ) (part : Part) (node after : Node) (message : Option Message)
+sends : (place to : ℕ) (part : Part) (node after : Node) (effect : Effect)
     (view : WorldState)
     → IsWorld view → slice_get view.world.nodes place ≡ Some node → HasNode to view
     → IsStill node after
-    → (part.from ≡ node.number) × (part.to ≡ to) → message ≡ Some (PartMessage part)
-    → Seen place node after None message view
-sends place to part node after message view kept here there still ends e =
+    → (part.from ≡ node.number) × (part.to ≡ to) → effect ≡ says (Some (PartMessage part))
+    → Seen place node after None effect view
+sends place to part node after effect view kept here there still ends e =
     subst (λ m. Seen place node after None m view) (sym e)
     (record {
       number = still.number;
@@ -145,12 +150,12 @@ sends place to part node after message view kept here there still ends e =
       ring = ring_stays place node after view kept here still.gone still.links;
     })
 
-takes : (place number : ℕ) (node after : Node) (outcome : Outcome) (message : Option Message)
+takes : (place number : ℕ) (node after : Node) (outcome : Outcome) (effect : Effect)
     (view : WorldState)
     → IsWorld view → slice_get view.world.nodes place ≡ Some node
-    → TakesPart number node view.world.sent outcome after message
-    → Seen place node after (slice_get view.world.sent number) message view
-takes place number node after outcome message view kept here does =
+    → TakesPart number node view.world.sent outcome after effect
+    → Seen place node after (slice_get view.world.sent number) effect view
+takes place number node after outcome effect view kept here does =
     let ends = part_ends view number does.part kept does.came in
     let still = still_part does.part does.given node after does.is in
     subst (λ m. Seen place node after (slice_get view.world.sent number) m view) (sym does.sends)
@@ -164,45 +169,72 @@ takes place number node after outcome message view kept here does =
       ring = ring_stays place node after view kept here still.gone still.links;
     })
 
+answers : (place number : ℕ) (node after : Node) (outcome : Outcome) (effect : Effect)
+    (view : WorldState)
+    → IsWorld view → slice_get view.world.nodes place ≡ Some node
+    → AnswersCall number node view.world.sent outcome after effect
+    → Seen place node after (slice_get view.world.sent number) effect view
+answers place number node after outcome effect view kept here does =
+    let ask : Ask = does.ask in
+    let within = call_at (length view.world.nodes)
+    (length view.world.callers) view.world.sent number (AskMessage ask)
+    kept.calls does.came in
+    let next = ap (λ (n : Node). n.phase) does.is.1 ∙ done_phase (ask_done ask node) ask node in
+    subst (λ e. Seen place node after (slice_get view.world.sent number) e view)
+    (sym does.effect_is)
+    (record {
+      number = answered_number ask node after does.answered does.is;
+      was = subst (WasSent view.world.sent) (sym does.came)
+          (was_sent view.world.sent number _ does.came);
+      call = answer_call (length view.world.nodes)
+          (length view.world.callers) ask node does.answered
+          (segment_with (id_of ask.request) node.held) does.is.0 within;
+      aimed = answer_aimed view.world.sent view.targets ask does.answered kept.targets;
+      ring = ring_stays place node after view kept here (ap is_gone next)
+          (ap (λ (n : Node). n.links) does.is.1 ∙ done_links (ask_done ask node) ask node);
+    })
+
 seen : (deed : NodeDeed) (place : ℕ) (node after : Node) (outcome : Outcome)
-    (message : Option Message)
+    (effect : Effect)
     (view : WorldState) → IsWorld view → slice_get view.world.nodes place ≡ Some node
     → Fits deed place view
-    → NodeDoes deed node view.world.sent outcome after message
-    → Seen place node after (taken_by deed view.world.sent) message view
-seen (deed.Cut slot at) place node after outcome message view kept here fits does =
-    quiet place node after None message view kept here tt
+    → NodeDoes deed node view.world.sent outcome after effect
+    → Seen place node after (taken_by deed view.world.sent) effect view
+seen (deed.Cut slot at) place node after outcome effect view kept here fits does =
+    quiet place node after None effect view kept here tt
     (still_cut slot at node after does.is) does.quiet
-seen (deed.Merge slot behind) place node after outcome message view kept here fits does =
-    quiet place node after None message view kept here tt
+seen (deed.Merge slot behind) place node after outcome effect view kept here fits does =
+    quiet place node after None effect view kept here tt
     (still_merge slot behind node after does.is) does.quiet
-seen deed.Leave place node after outcome message view kept here fits does =
-    quiet place node after None message view kept here tt
+seen deed.Leave place node after outcome effect view kept here fits does =
+    quiet place node after None effect view kept here tt
     (still_leave node after does.is) does.quiet
-seen deed.Retire place node after outcome message view kept here fits does =
-    gone place node after message view kept here fits does.is does.quiet
-seen (deed.Give slot to) place node after outcome message view kept here fits does =
-    sends place to does.part node after message view kept here fits
+seen deed.Retire place node after outcome effect view kept here fits does =
+    gone place node after effect view kept here fits does.is does.quiet
+seen (deed.Give slot to) place node after outcome effect view kept here fits does =
+    sends place to does.part node after effect view kept here fits
     (still_give slot to does.part node after does.is)
     (give_ends slot to does.part node after does.is) does.sends
-seen (deed.SendPart to item part) place node after outcome message view kept here fits does =
-    sends place to does.part node after message view kept here fits
+seen (deed.SendPart to item part) place node after outcome effect view kept here fits does =
+    sends place to does.part node after effect view kept here fits
     (still_same node after does.is.1)
     (resent_ends node.number to item part (payload_of
     (item_at to item node.outbox)) does.part does.is.0) does.sends
-seen (deed.TakePart number) place node after outcome message view kept here fits does =
-    takes place number node after outcome message view kept here does
-seen (deed.TakeGot got) place node after outcome message view kept here fits does =
-    quiet place node after (Some (GotMessage got)) message view kept here
+seen (deed.TakePart number) place node after outcome effect view kept here fits does =
+    takes place number node after outcome effect view kept here does
+seen (deed.TakeGot got) place node after outcome effect view kept here fits does =
+    quiet place node after (Some (GotMessage got)) effect view kept here
     (was_sent view.world.sent fits.1.0 (GotMessage got) fits.1.1)
     (still_got got does.found node after does.is) does.quiet
-seen (deed.TakeBack declined) place node after outcome message view kept here fits does =
-    quiet place node after (Some (DeclinedMessage declined)) message view kept here
+seen (deed.TakeBack declined) place node after outcome effect view kept here fits does =
+    quiet place node after (Some (DeclinedMessage declined)) effect view kept here
     (was_sent view.world.sent fits.1.0 (DeclinedMessage declined) fits.1.1)
     (still_back declined does.back node after does.is) does.quiet
-seen (deed.SetFinger finger peer) place node after outcome message view kept here fits does =
-    became place node (with_finger_at finger peer node) after message view kept does.1 refl
+seen (deed.SetFinger finger peer) place node after outcome effect view kept here fits does =
+    became place node (with_finger_at finger peer node) after effect view kept does.1 refl
     (pointed_ring place finger peer node view kept here) does.2
+seen (deed.Answer number) place node after outcome effect view kept here fits does =
+    answers place number node after outcome effect view kept here does
 
 -- what the node is asked for holds of it, since no delivery clashes in a reachable world
 pub fits_at : (deed : NodeDeed) (place : ℕ) (node : Node) (view : WorldState) → IsWorld view
@@ -239,6 +271,7 @@ fits_at (deed.TakeBack declined) place node view kept here taken taken_back (own
           (ap (λ n. node_at n view.world.nodes) own ∙ there),
     )
 fits_at (deed.SetFinger finger peer) place node view kept here taken taken_back fits = fits
+fits_at (deed.Answer number) place node view kept here taken taken_back fits = fits
 
 -- ---- the world
 
@@ -250,29 +283,32 @@ pub record Acted (deed : NodeDeed) (place : ℕ) (old : WorldState)
   pub step : Advances old result new
   pub ring : KeepsRing old new
 
--- the world with these nodes and messages
-abbrev pub with_parts : List Node → List Message → List (Option ℕ) → WorldState → WorldState
-with_parts nodes sent targets view =
-    record view { world = record view.world { nodes = nodes; sent = sent }; targets = targets }
+-- the world with these nodes and this log
+abbrev pub with_log : List Node → Log → WorldState → WorldState
+with_log nodes log view =
+    record view {
+      world = record view.world { nodes = nodes; sent = log.sent; history = log.history };
+      targets = log.targets;
+    }
 
-pub acted_by : (deed : NodeDeed) (place : ℕ) (view old : WorldState) (nodes : List Node)
-    (sent : List Message)
-    (targets : List (Option ℕ)) (result : Result Outcome Refusal) → view ≡ old → IsWorld view
-    → CanAct place old
-    → Fits deed place old → DoesItAt deed place view.world.nodes view.world.sent view.targets result nodes sent targets
-    → Acted deed place old result (with_parts nodes sent targets view)
-acted_by deed place view old nodes sent targets (Ok outcome) same kept can fits it =
+pub acted_by : (deed : NodeDeed) (place : ℕ) (view old : WorldState) (nodes : List Node) (log : Log)
+    (result : Result Outcome Refusal) → view ≡ old → IsWorld view → CanAct place old
+    → Fits deed place old
+    → DoesItAt deed place view.world.nodes (log_in view) result nodes log
+    → Acted deed place old result (with_log nodes log view)
+acted_by deed place view old nodes log (Ok outcome) same kept can fits it =
     let node : Node = it.node in
     let after : Node = it.after in
-    let by : DidBy deed node view.world.sent view.targets outcome after sent targets = it.is in
-    let sees = seen deed place node after outcome by.message view kept it.here
+    let by : DidBy deed node (log_in view) outcome after log = it.is in
+    let sees = seen deed place node after outcome by.effect view kept it.here
     (subst (Fits deed place) (sym same) fits) by.does in
     let put = put_is place node after nodes view kept it.here sees.number it.new_is in
-    let is : with_parts nodes sent targets view ≡ with_reply after by.message view =
-    λ i. with_parts (put i) (by.messages_are i) (by.targets_are i) view in
+    let is : with_log nodes log view ≡ with_effect after by.effect view =
+    λ i. with_log (put i) (by.log_is i) view in
     let running = ap (is_crashed place) same ∙ can.1 in
-    let next = acts_at place node after (taken_by deed view.world.sent) by.message
-    (no_target by.message) None view old _ same kept
+    let next = acts_at place node after
+    (taken_by deed view.world.sent) by.effect.message by.effect.target
+    by.effect.done view old _ same kept
     (record {
       here = it.here;
       running = running;
@@ -286,11 +322,11 @@ acted_by deed place view old nodes sent targets (Ok outcome) same kept can fits 
     record {
       world = next.world;
       answer =
-          subst (λ w. DoesDeed deed place w outcome (with_parts nodes sent targets view)) same
+          subst (λ w. DoesDeed deed place w outcome (with_log nodes log view)) same
           (record {
             node = node;
             after = after;
-            message = by.message;
+            effect = by.effect;
             here = node_stands place view view node refl kept it.here;
             running = running;
             does = by.does;
@@ -299,15 +335,16 @@ acted_by deed place view old nodes sent targets (Ok outcome) same kept can fits 
       step = next.step;
       ring = next.ring;
     }
-acted_by deed place view old nodes sent targets (Err refusal) same kept can fits it =
+acted_by deed place view old nodes log (Err refusal) same kept can fits it =
     let stay = it.new_is ∙ ap (set view.world.nodes place) it.is.1
     ∙ set_same view.world.nodes place it.node it.here in
-    let is : with_parts nodes sent targets view ≡ view = λ i. with_parts (stay i) (it.is.2 i)
-    (it.is.3 i) view in
+    let is : with_log nodes log view ≡ view = λ i. with_log (stay i) (it.is.2 i) view in
     let here = node_stands place view old it.node same kept it.here in
+    let refuses : RefusesIt deed place old refusal =
+    record { node = it.node; here = here; running = can.1; refuses = it.is.0 } in
     record {
       world = subst IsWorld (sym is) kept;
-      answer = (inr (record { node = it.node; here = here; running = can.1; refuses = it.is.0 }), is ∙ same);
+      answer = (inr refuses, is ∙ same);
       step = is ∙ same;
       ring = keeps_same view old _ same stay refl;
     }
@@ -374,8 +411,29 @@ received message place deed old new (Err refusal) has is_for done refuses (why, 
   where
     because : (why : Refusal) → RefusesDeed deed place old why → RefusesDeliver message old why
     because why (inl (Is_missing _ missing)) = absurd (missing_not place old why missing has)
-    because why (inl (Is_crashed there out)) = record { to = place; node = there.node; is_for = is_for; here = there.here; crashed = out }
+    because why (inl (Is_crashed there out)) = record {
+      to = place;
+      node = there.node;
+      is_for = is_for;
+      here = there.here;
+      crashed = out;
+    }
     because why (inr it) = refuses why it
+
+pub ask_received : (message place : ℕ) (ask : Ask) (view old new : WorldState)
+    (result : Result Outcome Refusal)
+    → view ≡ old → IsWorld view → slice_get old.world.sent message ≡ Some (AskMessage ask)
+    → IsReceiver message place old
+    → DeedIs (deed.Answer message) place old result new → DeliverIs message old result new
+ask_received message place ask view old new result same kept came receiver does =
+    received message place (deed.Answer message) old new result
+    (has_node place view old same kept (receiver_there message place view old same receiver))
+    (Ask_for ask place came receiver.target)
+    (λ outcome done. To_node ask place outcome new came receiver.target done)
+    (λ refusal it. subst (RefusesDeliver message old) (sym it.refuses)
+    (Ask_takes ask place came receiver.target
+    (record { node = it.node; here = it.here; running = it.running; refuses = refl })))
+    does
 
 pub part_received : (message place : ℕ) (part : Part) (view old new : WorldState)
     (result : Result Outcome Refusal)

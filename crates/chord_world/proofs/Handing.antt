@@ -8,18 +8,11 @@ use Rattle.chord_ident.specs.declared.id.Id.{Id}
 use Rattle.chord_handover.specs.Handover.{Part, parts_in}
 use Rattle.chord_handover.specs.Payload.{Payload}
 use Rattle.chord_handover.specs.Outbox.{part_of_item}
-use Rattle.chord_node.specs.declared.fault.CutAtFault.{CutAtFault}
-use Rattle.chord_node.specs.declared.fault.CutAtFault.TheVariants as cut
-use Rattle.chord_node.specs.declared.fault.MergeFault.{MergeFault}
-use Rattle.chord_node.specs.declared.fault.MergeFault.TheVariants as merge
 use Rattle.chord_node.specs.declared.fault.GiveFault.{GiveFault}
 use Rattle.chord_node.specs.declared.fault.GiveFault.TheVariants as give
-use Rattle.chord_node.specs.declared.fault.NotStaying.{NotStaying}
-use Rattle.chord_node.specs.declared.fault.RetireFault.{RetireFault}
-use Rattle.chord_node.specs.declared.fault.RetireFault.TheVariants as retire
 use Rattle.chord_model.specs.declared.phase.Phase.TheVariants as phase
 use Rattle.chord_ring.specs.Ring.{is_member, CanDepart}
-use Rattle.chord_node.specs.Moves.{with_held, CutAtIs, MergeIs, LeaveIs, GiveIs, RetireIs}
+use Rattle.chord_node.specs.Moves.{with_held, CutAtIs, MergeIs, LeaveIs, GiveIs}
 use Rattle.chord_model.specs.Node.{Node}
 use Rattle.chord_segment.specs.Segment.{Segment}
 use Rattle.chord_model.specs.World.{node_at}
@@ -101,32 +94,10 @@ pub give_ends : (place to : ℕ) (part : Part) (node after : Node) → GiveIs pl
 give_ends place to part node after h = (ap (λ (p : Part). p.from) h.3, ap (λ (p : Part). p.to) h.3)
 
 -- a node that refused is unchanged
-kept_held : (node after : Node) → after ≡ with_held after.held node → after.held ≡ node.held → after ≡ node
-kept_held node after is same = is ∙ ap (λ held. with_held held node) same
-
-pub kept_cut : (place : ℕ) (at : Id) (fault : CutAtFault) (node after : Node) → CutAtIs place at node (Err fault) after → after ≡ node
-kept_cut place at cut.NoSegment node after h = kept_held node after h.1 h.0.1
-kept_cut place at cut.NotInside node after h = kept_held node after h.1 h.0.3
-kept_cut place at cut.Memory node after h = kept_held node after h.1 h.0.3
-
-pub kept_merge : (place other : ℕ) (fault : MergeFault) (node after : Node) → MergeIs place other node (Err fault) after → after ≡ node
-kept_merge place other merge.NoSegment node after h = kept_held node after h.1 h.0.1
-kept_merge place other merge.NotAdjacent node after h = kept_held node after h.1 h.0.1
-kept_merge place other merge.Overlap node after h = kept_held node after h.1 h.0.1
-kept_merge place other merge.Twice node after h = kept_held node after h.1 h.0.1
-kept_merge place other merge.Memory node after h = kept_held node after h.1 h.0.1
-
-pub kept_leave : (fault : NotStaying) (node after : Node) → LeaveIs node (Err fault) after → after ≡ node
-kept_leave fault node after h = h.1
-
 pub kept_give : (place to : ℕ) (fault : GiveFault) (node after : Node) → GiveIs place to node (Err fault) after → after ≡ node
 kept_give place to give.NoSegment node after h = h.1
 kept_give place to give.NumbersSpent node after h = h.2
 kept_give place to give.Memory node after h = h.2
-
-pub kept_retire : (fault : RetireFault) (node after : Node) → RetireIs node (Err fault) after → after ≡ node
-kept_retire retire.NotLeaving node after h = h.1
-kept_retire retire.NotEmpty node after h = h.2
 
 -- ---- a part that is sent
 

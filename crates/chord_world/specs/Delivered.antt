@@ -1,21 +1,18 @@
 -- What a World answers to the delivery of a message.
-use Rattle.std.specs.Prelude.{◌≡◌, ◌≢◌, ℕ, true, false, ◌≤◌, Option, None, Some, Result, Ok, [], length, slice_get}
+use Rattle.std.specs.Prelude.{◌≡◌, ◌≢◌, ℕ, true, ◌≤◌, None, Some, Result, Ok, [], length, slice_get}
 use Rattle.chord_caller.specs.declared.ask.Ask.{Ask}
 use Rattle.chord_caller.specs.declared.told.Told.{Told}
 use Rattle.chord_caller.specs.declared.heard.Heard.{Heard}
 use Rattle.chord_caller.specs.declared.heard.Heard.TheVariants.{Fresh as FreshReply, Known as KnownReply}
 use Rattle.chord_caller.specs.Caller.{Note, Caller}
 use Rattle.chord_caller.specs.Answers.{TakeIs}
-use Rattle.chord_node.specs.declared.asks.answered.Answered.{Answered}
-use Rattle.chord_node.specs.declared.asks.answered.Answered.TheVariants as answer
 use Rattle.chord_model.specs.declared.message.Message.TheVariants.{Ask as AskMessage, Told as ToldMessage, Full as FullMessage, Part as PartMessage, Got as GotMessage, Declined as DeclinedMessage, Note as NoteMessage}
 use Rattle.chord_handover.specs.declared.ticket.Ticket.{Ticket}
 use Rattle.chord_handover.specs.Handover.{Part}
 use Rattle.chord_world.specs.declared.deed.NodeDeed.TheVariants as deed
 use Rattle.chord_world.specs.Deeds.{DoesDeed, RefusesIt}
 use Rattle.chord_model.specs.Node.{Node}
-use Rattle.chord_node.specs.Asked.{AskIs, ask_done, sent_by}
-use Rattle.chord_model.specs.World.{node_at, put_node, caller_at, with_one}
+use Rattle.chord_model.specs.World.{node_at, caller_at}
 use Rattle.chord_world.specs.declared.outcome.Outcome.{Outcome}
 use Rattle.chord_world.specs.declared.outcome.Outcome.TheVariants as did
 use Rattle.chord_world.specs.declared.refusal.Refusal.{Refusal}
@@ -23,32 +20,6 @@ use Rattle.chord_world.specs.declared.refusal.Refusal.TheVariants as refused
 use Rattle.chord_world.specs.declared.refusal.StepFault.TheVariants as step_fault
 use Rattle.chord_world.specs.Refusals.{DoneOrRefused}
 use Rattle.chord_world.specs.State.{WorldState, with_heard, is_crashed}
-
--- the outcome of an answer to a call, if `count` messages were sent before
-abbrev pub outcome_of : Answered → ℕ → Outcome
-outcome_of (answer.Told told) count = did.Told count
-outcome_of (answer.Forward to passed) count = did.Forwarded count
-outcome_of answer.Dropped count = did.Dropped
-outcome_of answer.Full count = did.Full count
-
--- the node that the answer's message is for, if it is an Ask
-abbrev pub target_of : Answered → Option (Option ℕ)
-target_of (answer.Told told) = Some None
-target_of (answer.Forward to passed) = Some (Some to)
-target_of answer.Dropped = None
-target_of answer.Full = Some None
-
--- the world after this node answered a call with this
-abbrev pub with_answer : Ask → Node → Node → Answered → WorldState → WorldState
-with_answer ask node after answered old =
-    record old {
-      world = record old.world {
-        nodes = put_node after old.world.nodes;
-        sent = with_one old.world.sent (sent_by ask answered);
-        history = with_one old.world.history (ask_done ask node);
-      };
-      targets = with_one old.targets (target_of answered);
-    }
 
 -- the outcome of hearing a reply
 abbrev pub outcome_heard : Heard → ℕ → Outcome
@@ -58,9 +29,9 @@ outcome_heard KnownReply caller = did.Known
 -- How the message of this number is delivered, and its outcome.
 pub data Delivers (message : ℕ) (old : WorldState) : Outcome → WorldState → Type 0 where
   -- an Ask is delivered to its node
-  To_node : (ask : Ask) (to : ℕ) (node after : Node) (answered : Answered) → slice_get old.world.sent message ≡ Some (AskMessage ask)
-      → slice_get old.targets message ≡ Some (Some to) → node_at to old.world.nodes ≡ Some node → is_crashed to old ≡ false → AskIs ask node (Ok answered) after
-      → Delivers message old (outcome_of answered (length old.world.sent)) (with_answer ask node after answered old)
+  To_node : (ask : Ask) (to : ℕ) (outcome : Outcome) (new : WorldState)
+      → slice_get old.world.sent message ≡ Some (AskMessage ask) → slice_get old.targets message ≡ Some (Some to)
+      → DoesDeed (deed.Answer message) to old outcome new → Delivers message old outcome new
   -- a Told is delivered to its caller
   To_caller : (told : Told) (core after : Caller) (heard : Heard) → slice_get old.world.sent message ≡ Some (ToldMessage told)
       → caller_at told.caller old.world.callers ≡ Some core → TakeIs told core (Ok heard) after
@@ -103,8 +74,9 @@ pub record IsForCrashed (message : ℕ) (old : WorldState) : Type 0 where
 
 -- taking in the message of this number copies something or makes something grow
 pub data TakesMemory (message : ℕ) (old : WorldState) : Type 0 where
-  Ask_takes : (ask : Ask) (to : ℕ) (node : Node) → slice_get old.world.sent message ≡ Some (AskMessage ask) → slice_get old.targets message ≡ Some (Some to)
-      → node_at to old.world.nodes ≡ Some node → is_crashed to old ≡ false → TakesMemory message old
+  Ask_takes : (ask : Ask) (to : ℕ) → slice_get old.world.sent message ≡ Some (AskMessage ask)
+      → slice_get old.targets message ≡ Some (Some to) → RefusesIt (deed.Answer message) to old refused.Memory
+      → TakesMemory message old
   Told_takes : (told : Told) → slice_get old.world.sent message ≡ Some (ToldMessage told) → TakesMemory message old
   Part_takes : (part : Part) → slice_get old.world.sent message ≡ Some (PartMessage part)
       → RefusesIt (deed.TakePart message) part.to old refused.Memory → TakesMemory message old

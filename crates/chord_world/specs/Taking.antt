@@ -1,18 +1,16 @@
--- How a node takes in a Part, a Got or a Declined.
+-- The outcomes and messages of what a node takes in.
 use Rattle.std.specs.Prelude.{ℕ, Bool, true, false, Option, None, Some}
 use Rattle.chord_handover.specs.declared.ticket.Ticket.{Ticket}
+use Rattle.chord_node.specs.declared.asks.answered.Answered.{Answered}
+use Rattle.chord_node.specs.declared.asks.answered.Answered.TheVariants as answer
 use Rattle.chord_node.specs.declared.handovers.part_answer.PartAnswer.{PartAnswer}
 use Rattle.chord_node.specs.declared.handovers.part_answer.PartAnswer.TheVariants as given
 use Rattle.chord_node.specs.declared.handovers.part_answer.Back.{Back}
 use Rattle.chord_node.specs.declared.handovers.part_answer.Back.TheVariants as back
 use Rattle.chord_model.specs.declared.message.Message.{Message}
 use Rattle.chord_model.specs.declared.message.Message.TheVariants.{Got as GotMessage, Declined as DeclinedMessage}
-use Rattle.chord_model.specs.Node.{Node}
-use Rattle.chord_model.specs.World.{with_one}
 use Rattle.chord_world.specs.declared.outcome.Outcome.{Outcome}
 use Rattle.chord_world.specs.declared.outcome.Outcome.TheVariants as did
-use Rattle.chord_world.specs.State.{WorldState}
-use Rattle.chord_world.specs.Linking.{with_node}
 
 -- the outcome of an answer to a part, if `count` messages were sent before; Clash has none, for it
 -- never happens
@@ -47,10 +45,16 @@ outcome_of_back back.Unknown = Some did.Unknown
 outcome_of_back back.Full = Some did.NoRoom
 outcome_of_back back.Clash = None
 
--- the world after a node changed and sent this message
-abbrev pub with_reply : Node → Option Message → WorldState → WorldState
-with_reply after message old =
-    record old {
-      world = record (with_node after old).world { sent = with_one old.world.sent message };
-      targets = with_one old.targets (no_target message);
-    }
+-- the outcome of an answer to a call, if `count` messages were sent before
+abbrev pub outcome_of : Answered → ℕ → Outcome
+outcome_of (answer.Told told) count = did.Told count
+outcome_of (answer.Forward to passed) count = did.Forwarded count
+outcome_of answer.Dropped count = did.Dropped
+outcome_of answer.Full count = did.Full count
+
+-- the node that the answer's message is for, if it is an Ask
+abbrev pub target_of : Answered → Option (Option ℕ)
+target_of (answer.Told told) = Some None
+target_of (answer.Forward to passed) = Some (Some to)
+target_of answer.Dropped = None
+target_of answer.Full = Some None

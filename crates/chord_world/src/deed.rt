@@ -1,25 +1,29 @@
 //! What a node does.
-ghost use Rattle.std.specs.Prelude.{◌≡◌, ◌≢◌, ◌<◌, None, Some, length};
+ghost use Rattle.std.specs.Prelude.{◌≡◌, ◌≢◌, ◌<◌, List, None, Some, length, true};
 ghost use Rattle.std.specs.Vec.{vec_len, vec_capacity};
 ghost use Rattle.chord_node.specs.declared.handovers.part_answer.PartAnswer.TheVariants.{Clash};
 ghost use Rattle.chord_node.specs.declared.handovers.part_answer.Back.TheVariants.{Clash as BackClash};
 ghost use Rattle.chord_model.specs.Node.{NodeStep};
 ghost use Rattle.chord_model.specs.World.{with_one};
+ghost use Rattle.chord_map.specs.declared.done.Done.{Done};
+ghost use Rattle.chord_world.specs.Delivering.{message_by};
 ghost use Rattle.chord_world.specs.State.{messages_of, targets_of};
 ghost use Rattle.chord_world.specs.declared.deed.NodeDeed.TheVariants as deed;
-ghost use Rattle.chord_world.specs.Deeds.{DoesIt, NodeFits};
+ghost use Rattle.chord_world.specs.Deeds.{DoesIt, NodeFits, log_of};
 ghost use Rattle.chord_world.specs.Linking.{IsFinger, with_finger_at};
-ghost use Rattle.chord_world.specs.Taking.{outcome_of_given, outcome_of_freed, outcome_of_back};
-ghost use Rattle.chord_world.specs.Taking.{confirmation, no_target};
+ghost use Rattle.chord_world.specs.Taking.{outcome_of, outcome_of_given, outcome_of_freed};
+ghost use Rattle.chord_world.specs.Taking.{outcome_of_back, confirmation, no_target, target_of};
 
 use crate::outcome::Outcome;
 use crate::refusal::Refusal;
 use crate::sent::Sent;
 use crate::steps::outgoing::{push_message, send};
 use chord_handover::{Declined, Got, Ticket};
+use chord_history::History;
 use chord_ident::Id;
 use chord_links::Peer;
-use chord_node::{Back, Message, Node, PartAnswer};
+use chord_map::Done;
+use chord_node::{Answered, Back, Message, Node, PartAnswer};
 use chord_store::EntryStore;
 
 /// What a node does. Places are indices of its held segments.
@@ -45,6 +49,8 @@ pub(crate) enum NodeDeed {
     TakeBack { declined: Declined },
     /// It sets its finger, 1 to 128, to the peer.
     SetFinger { finger: u64, peer: Peer },
+    /// It answers the call that was sent under this number.
+    Answer { message: u64 },
 }
 
 /// The node gives the segment, and sends the first part.
@@ -54,9 +60,8 @@ fn give<S: EntryStore>(
     place: usize,
     to: u64,
 ) -> Result<Outcome, Refusal>
-    ensures { DoesIt (deed.Give place to) node.old
-        (messages_of sent.old.items) (targets_of sent.old.items) result node.new
-        (messages_of sent.new.items) (targets_of sent.new.items) }
+    ensures { (history : List Done) → DoesIt (deed.Give place to) node.old
+        (log_of sent.old.items history) result node.new (log_of sent.new.items history) }
 {
     node.may_give(place, to)?;
     sent.reserve(1)?;
@@ -73,9 +78,8 @@ fn send_part<S: EntryStore>(
     number: u64,
     part: u64,
 ) -> Result<Outcome, Refusal>
-    ensures { DoesIt (deed.SendPart to number part) node.old
-        (messages_of sent.old.items) (targets_of sent.old.items) result node.new
-        (messages_of sent.new.items) (targets_of sent.new.items) }
+    ensures { (history : List Done) → DoesIt (deed.SendPart to number part) node.old
+        (log_of sent.old.items history) result node.new (log_of sent.new.items history) }
 {
     let part = node.resend_part(to, number, part)?;
     let message = send(sent, Message::Part(part), None)?;
@@ -137,9 +141,8 @@ fn take_part<S: EntryStore>(
     number: usize,
 ) -> Result<Outcome, Refusal>
     requires { NodeFits (deed.TakePart number) node.old (messages_of sent.old.items) }
-    ensures { DoesIt (deed.TakePart number) node.old
-        (messages_of sent.old.items) (targets_of sent.old.items) result node.new
-        (messages_of sent.new.items) (targets_of sent.new.items) }
+    ensures { (history : List Done) → DoesIt (deed.TakePart number) node.old
+        (log_of sent.old.items history) result node.new (log_of sent.new.items history) }
 {
     sent.reserve(1)?;
     let Message::Part(part) = &sent[number].message else {
@@ -161,17 +164,71 @@ fn set_finger<S: EntryStore>(node: &mut Node<S>, finger: usize, peer: Peer)
     node.set_links(links);
 }
 
+/// Sends the message of an answer to this caller's call, and gives the outcome.
+fn post(sent: &mut Vec<Sent>, caller: u64, number: u64, answered: Answered) -> Outcome
+    requires { vec_len sent.old < vec_capacity sent.old }
+    ensures sent { messages_of sent.new.items
+        ≡ with_one (messages_of sent.old.items) (message_by caller number answered) }
+    ensures targets { targets_of sent.new.items
+        ≡ with_one (targets_of sent.old.items) (target_of answered) }
+    ensures outcome { result ≡ outcome_of answered (length (messages_of sent.old.items)) }
+{
+    match answered {
+        Answered::Told(told) => Outcome::Told(push_message(sent, Message::Told(told), None)),
+        Answered::Forward(to, passed) => {
+            Outcome::Forwarded(push_message(sent, Message::Ask(passed), Some(to)))
+        }
+        Answered::Dropped => Outcome::Dropped,
+        Answered::Full => {
+            Outcome::Full(push_message(sent, Message::Full { caller, number }, None))
+        }
+    }
+}
+
+/// Adds the executed call to the history, if there is one.
+fn add_done(history: &mut History, done: Option<Done>)
+    requires { history.old.has_room ≡ true }
+    ensures { history.new.calls ≡ with_one history.old.calls done }
+{
+    if let Some(done) = done {
+        history.add(done);
+    }
+}
+
+/// The node answers the call that was sent under this number. An executed call goes into the
+/// history, and the message of the answer is sent.
+fn answer<S: EntryStore>(
+    node: &mut Node<S>,
+    sent: &mut Vec<Sent>,
+    history: &mut History,
+    number: usize,
+) -> Result<Outcome, Refusal>
+    requires { NodeFits (deed.Answer number) node.old (messages_of sent.old.items) }
+    ensures { DoesIt (deed.Answer number) node.old (log_of sent.old.items history.old.calls) result
+        node.new (log_of sent.new.items history.new.calls) }
+{
+    sent.reserve(1)?;
+    history.reserve()?;
+    let Message::Ask(ask) = &sent[number].message else {
+        unreachable!()
+    };
+    let (caller, of) = (ask.caller, ask.number);
+    let did = node.on_ask(ask)?;
+    add_done(history, did.1);
+    Ok(post(sent, caller, of, did.0))
+}
+
 impl NodeDeed {
     /// The node does it, and sends its message, if it has one.
     pub(crate) fn act<S: EntryStore>(
         self,
         node: &mut Node<S>,
         sent: &mut Vec<Sent>,
+        history: &mut History,
     ) -> Result<Outcome, Refusal>
         requires { NodeFits self node.old (messages_of sent.old.items) }
-        ensures { DoesIt self node.old
-            (messages_of sent.old.items) (targets_of sent.old.items) result node.new
-            (messages_of sent.new.items) (targets_of sent.new.items) }
+        ensures { DoesIt self node.old (log_of sent.old.items history.old.calls) result
+            node.new (log_of sent.new.items history.new.calls) }
     {
         match self {
             NodeDeed::Cut { place, at } => {
@@ -205,6 +262,7 @@ impl NodeDeed {
                 set_finger(node, finger as usize, peer);
                 Ok(Outcome::Done)
             }
+            NodeDeed::Answer { message } => answer(node, sent, history, message as usize),
         }
     }
 }

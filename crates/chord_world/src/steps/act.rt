@@ -1,15 +1,16 @@
 //! What a node does by itself.
 ghost use Rattle.std.specs.Prelude.{◌≡◌, ◌<◌, Some, length, slice_get};
 ghost use Rattle.chord_model.specs.Node.{Node as NodeOf};
-ghost use Rattle.chord_world.specs.State.{messages_of, targets_of, KeepsRing};
+ghost use Rattle.chord_world.specs.State.{messages_of, KeepsRing};
 ghost use Rattle.chord_world.specs.Steps.{Advances};
-ghost use Rattle.chord_world.specs.Deeds.{DeedIs, Fits, NodeFits, DoesItAt, GiveStepIs, SendPartIs};
+ghost use Rattle.chord_world.specs.Deeds.{DeedIs, Fits, NodeFits, DoesItAt, log_of, GiveStepIs, SendPartIs};
 
 use crate::deed::NodeDeed;
 use crate::outcome::Outcome;
 use crate::refusal::{Refusal, StepFault};
 use crate::sent::Sent;
 use crate::world::World;
+use chord_history::History;
 use chord_node::Node;
 use chord_store::EntryStore;
 
@@ -17,18 +18,18 @@ use chord_store::EntryStore;
 pub(crate) fn act_at<S: EntryStore>(
     nodes: &mut Vec<Node<S>>,
     sent: &mut Vec<Sent>,
+    history: &mut History,
     place: usize,
     deed: NodeDeed,
 ) -> Result<Outcome, Refusal>
     requires place { place < length nodes.old.items }
     requires fits { (node : NodeOf) → slice_get nodes.old.items place ≡ Some node
         → NodeFits deed node (messages_of sent.old.items) }
-    ensures { DoesItAt deed place nodes.old.items
-        (messages_of sent.old.items) (targets_of sent.old.items) result nodes.new.items
-        (messages_of sent.new.items) (targets_of sent.new.items) }
+    ensures { DoesItAt deed place nodes.old.items (log_of sent.old.items history.old.calls) result
+        nodes.new.items (log_of sent.new.items history.new.calls) }
 {
     let node = &mut nodes[place];
-    deed.act(node, sent)
+    deed.act(node, sent, history)
 }
 
 impl<S: EntryStore> World<S> {
@@ -42,7 +43,8 @@ impl<S: EntryStore> World<S> {
     {
         self.can_act(number)?;
         chord_node::laws::no_delivery_clashes();
-        act_at(&mut self.nodes, &mut self.sent, number as usize, deed)
+        let (nodes, sent, history) = (&mut self.nodes, &mut self.sent, &mut self.history);
+        act_at(nodes, sent, history, number as usize, deed)
     }
 
     /// The node gives the held segment at the index `place` to another, and sends the first part.

@@ -47,8 +47,8 @@ impl<S: EntryStore> World<S> {
             return Err(Refusal::Step(StepFault::NotCrashed));
         }
         self.fates[node as usize] = Fate::Rescued;
-        let (nodes, sent) = (&mut self.nodes, &mut self.sent);
-        let _ = act_at(nodes, sent, node as usize, NodeDeed::Leave);
+        let (nodes, sent, history) = (&mut self.nodes, &mut self.sent, &mut self.history);
+        let _ = act_at(nodes, sent, history, node as usize, NodeDeed::Leave);
         Ok(Outcome::Done)
     }
 }

@@ -1,13 +1,14 @@
-use Rattle.std.proofs.Common.{◌≡◌, Some, Ok, List, length, refl, ap, ◌∙◌}
+use Rattle.std.proofs.Common.{◌≡◌, Some, Ok, List, length, refl, ap, subst, ◌∙◌}
 use Rattle.std.specs.Prelude.{slice_get}
 use Rattle.chord_model.specs.declared.message.Message.TheVariants.{Told as ToldMessage}
 use Rattle.chord_world.specs.View.{state_of}
 use Rattle.chord_world.specs.State.{WorldState}
 use Rattle.chord_world.proofs.Placing.{call_at}
 use Rattle.chord_world.specs.Delivering.{HearsAt}
+use Rattle.chord_world.specs.Delivered.{TakesMemory}
 use Rattle.chord_world.specs.Delivered.TakesMemory.{Told_takes}
 use Rattle.chord_caller.specs.Caller.{Caller}
-use Rattle.chord_world.proofs.Answering.{place_within, read, sent_here, stays, told_owed, told_to, told_step, told_is_world, told_delivers, heard_is, callers_stay, world_after, step_after, delivers_after}
+use Rattle.chord_world.proofs.Answering.{place_within, read, sent_here, told_owed, told_to, told_step, told_is_world, told_delivers, heard_is, callers_stay, world_after, step_after, delivers_after}
 use Rattle.chord_world.proofs.Acting.{keeps_same}
 use Rattle.chord_world.proofs.Keeping.{with_callers}
 use Rattle.chord_world.proofs.world.World.deliver_told.Goals as goal
@@ -54,8 +55,10 @@ pub returns-in_default-hear_at-clause-answer : goal.returns-in_default-hear_at-c
 returns-in_default-hear_at-clause-answer g c =
     let view : WorldState = state_of c.self.inside in
     let within = place_within c.self.inside.sent.items c.self.inside.sent.items c.args.place _ refl (sent_here view c.args.self.now c.args.place _ c.self.view_is c.requires.told.1) in
-    let sent : slice_get view.world.sent c.args.place ≡ Some (ToldMessage c.in-Told.told) = read c.self.inside.sent.items c.self.inside.sent.items c.args.place c.index.result.now _ refl within c.index.ensures c.in-Told.is in
-    stays view c.args.self.now _ c.args.place c.self.view_is (Told_takes c.in-Told.told sent) (ap (λ (cs : List Caller). record view { world = record view.world { callers = cs } }) c.in_default-hear_at.ensures)
+    let sent : slice_get view.world.sent c.args.place ≡ Some (ToldMessage c.in-Told.told) = read c.self.inside.sent.items c.self.inside.sent.items c.args.place c.index.result.now _ refl within c.index.ensures c.in-Told.is in (
+      subst (TakesMemory c.args.place) c.self.view_is (Told_takes c.in-Told.told sent),
+      ap (λ (cs : List Caller). record view { world = record view.world { callers = cs } }) c.in_default-hear_at.ensures ∙ c.self.view_is,
+    )
 
 pub returns-in_default-hear_at-clause-ring : goal.returns-in_default-hear_at-clause-ring
 returns-in_default-hear_at-clause-ring g c = keeps_same (state_of c.self.inside) c.args.self.now _ c.self.view_is refl refl

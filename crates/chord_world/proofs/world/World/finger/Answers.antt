@@ -21,7 +21,8 @@ returns-in_err-can_act-clause-answer g c =
     refused_so (DoesFinger c.args.node c.args.finger c.args.to)
     (RefusesFinger c.args.node c.args.finger c.args.to)
     c.args.self.now c.in_err-can_act.field-0.0 c.from_residual-in_err-can_act.result
-    (inr (c.in_ok-is_there.ensures, inl c.in_err-can_act.ensures)) c.from_residual-in_err-can_act.ensures.1
+    (inr (c.in_ok-is_there.ensures, inl c.in_err-can_act.ensures))
+    c.from_residual-in_err-can_act.ensures.1
 
 pub returns-then-finger-lt1-clause-answer : goal.returns-then-finger-lt1-clause-answer
 returns-then-finger-lt1-clause-answer g c = (
@@ -41,10 +42,14 @@ returns-then-finger-lt1-clause-answer g c = (
 
 pub returns-clause-answer : goal.returns-clause-answer
 returns-clause-answer g c =
-    let within = acts_within c.args.to _ c.args.self.now c.self.view_is c.self.invariant c.in_ok-is_there.ensures in
-    let there = node_stands c.args.to _ c.args.self.now c.index.result.now c.self.view_is c.self.invariant
+    let within = acts_within c.args.to _ c.args.self.now c.self.view_is c.self.invariant
+    c.in_ok-is_there.ensures in
+    let there = node_stands c.args.to _ c.args.self.now c.index.result.now c.self.view_is
+    c.self.invariant
     (got c.self.inside.nodes.items c.args.to c.index.result.now within c.index.ensures) in
-    fingered c.args.node c.args.finger c.args.to c.index.result.now c.args.self.now c.act.new.self c.act.result there
+    fingered c.args.node c.args.finger c.args.to c.index.result.now c.args.self.now
+    c.act.new.self c.act.result there
     (omega arith, omega arith)
-    (subst (λ p. DeedIs (deed.SetFinger c.args.finger p) c.args.node c.args.self.now c.act.result c.act.new.self)
+    (subst (λ p. DeedIs (deed.SetFinger c.args.finger p) c.args.node c.args.self.now c.act.result
+    c.act.new.self)
     (c.me-peer.ensures ∙ ap (λ l. l.me) c.links.ensures) c.act.ensures.answer)

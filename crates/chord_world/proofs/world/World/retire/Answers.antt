@@ -7,7 +7,8 @@ use Rattle.chord_world.proofs.world.World.retire.Goals as goal
 
 pub returns-then-is_needed-clause-answer : goal.returns-then-is_needed-clause-answer
 returns-then-is_needed-clause-answer g c =
-    let needed = subst (NeededIs c.args.node c.args.self.now) c.if-is_needed.true c.is_needed.ensures in
+    let needed = subst (NeededIs c.args.node c.args.self.now) c.if-is_needed.true
+    c.is_needed.ensures in
     (inl (inr (c.in_ok-is_there.ensures, needed, refl)), refl)
 
 pub act-requires : goal.act-requires
@@ -20,4 +21,5 @@ returns-clause-answer g c =
     (λ o refusal. IsMissing c.args.node o refusal
     ⊎ (HasNode c.args.node o × IsNeeded c.args.node o × (refusal ≡ refused.Unsafe)))
     deed.Retire c.args.node c.args.self.now c.act.new.self c.act.result
-    (subst (NeededIs c.args.node c.args.self.now) c.if-is_needed.false c.is_needed.ensures) c.act.ensures.answer
+    (subst (NeededIs c.args.node c.args.self.now) c.if-is_needed.false c.is_needed.ensures)
+    c.act.ensures.answer

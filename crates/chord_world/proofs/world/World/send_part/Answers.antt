@@ -25,6 +25,7 @@ returns-clause-answer g c =
     (λ o refusal. CannotAct c.args.node o refusal
     ⊎ (CanAct c.args.node o × (node_at c.args.to o.world.nodes ≡ None)
     × (refusal ≡ refused.Step step_fault.NoPart)))
-    (deed.SendPart c.args.to c.args.number c.args.part) c.args.node c.args.self.now c.act.new.self c.act.result
+    (deed.SendPart c.args.to c.args.number c.args.part) c.args.node c.args.self.now
+    c.act.new.self c.act.result
     (has_node c.args.to _ c.args.self.now c.self.view_is c.self.invariant
     (omega arith)) c.act.ensures.answer
