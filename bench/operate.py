@@ -9,9 +9,11 @@ crash at random, and rescues those that crashed. At the end all are rescued, and
 once more. Then, for each key, it searches for an order of the requests that one set allows and that
 keeps to the times at which they were written and their replies read (the search of Wing and Gong).
 A request without a reply may stand anywhere behind its writing, or nowhere; its client goes on over
-the same connection. It tells the waits of all requests, and of those whose key some node answered
-for all the time: each of these above 20 ms with what the operator did meanwhile. With --calm no node crashes, so each request is for the key of a node that
-answers. With --plant it changes one reply before the search, which must then fail. It ends with a
+the same connection. It tells the waits of all requests, and of those whose key some node
+answered for all the time: each of these above 20 ms with what the operator did meanwhile. With
+--calm no node crashes, so each request is for the key of a node that answers. The search may want
+some gigabytes for 300 seconds of a machine with nothing else to do, whose requests without a reply
+are many. With --plant it changes one reply before the search, which must then fail. It ends with a
 status other than 0 where something is wrong: a key without a history, a rescued node that is not
 gone, a key that is not served at the end, a client that was turned away.
 """
