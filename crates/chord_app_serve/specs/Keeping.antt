@@ -7,6 +7,6 @@ abbrev pub kept_until : (now seconds : ℕ) → Option ℕ
 kept_until now seconds =
     if nat_lt now (seconds * 1000) then None else Some (now - seconds * 1000)
 
--- Kept answers of so many bytes are too much for all sessions without a connection: above 64 MiB.
+-- Whether the kept answers of all sessions without a connection have too many bytes: above 64 MiB.
 abbrev pub is_surplus : ℕ → Bool
 is_surplus bytes = nat_lt 67108864 bytes

@@ -1,4 +1,4 @@
--- So many steps of a link, one behind another. Source: our own.
+-- A number of steps of a link, one behind another. Source: our own.
 use Rattle.std.specs.Prelude.{ℕ, ◌+◌, List, Result}
 use Rattle.chord_serve.specs.Stepping.{AnswersNext, IsBefore}
 use Rattle.chord_serve.specs.declared.link.stage.Step.{Step}

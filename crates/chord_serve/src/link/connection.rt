@@ -1,5 +1,5 @@
 //! One connection, which owns its stream.
-ghost use Rattle.std.specs.Prelude.{◌≡◌, ◌≢◌, ◌⊎◌, ◌↔◌, ◌∷◌, [], ℕ, ◌<◌, List, Result, length, take, drop, true, false, Ok, Some, None, IfOk, IfErr, IsTrue};
+ghost use Rattle.std.specs.Prelude.{◌≡◌, ◌≢◌, ◌⊎◌, ◌↔◌, ◌∷◌, [], ℕ, ◌<◌, List, Result, length, take, drop, true, false, Ok, Some, None, IfOk, IfErr, IsTrue, OnErr};
 ghost use Rattle.std.specs.Io.KnownBytes.{Appends, Consumes, IsAtEnd};
 ghost use Rattle.chord_serve.specs.Runs.{Run};
 ghost use Rattle.chord_serve.specs.Stages.{stage_after, tries_after};
@@ -147,7 +147,8 @@ impl<P: Protocol, S: Stream> Link<P, S> {
     /// Whether nothing is left to do: let it go.
     pub fn is_done(&self) -> bool
         ensures over { IsTrue result
-            → (self.now.machine.is_lost ≡ true) ⊎ (self.now.machine.due ≡ []) }
+            → (self.now.machine.is_lost ≡ true) ⊎ ((end : ServedOf)
+            × (self.now.machine.stage ≡ Stage.Over end) × (self.now.machine.due ≡ [])) }
         ensures lost { self.now.machine.is_lost ≡ true → IsTrue result }
         ensures ended { (end : ServedOf) → self.now.machine.stage ≡ Stage.Over end
             → self.now.machine.due ≡ [] → IsTrue result }
@@ -166,6 +167,8 @@ impl<P: Protocol, S: Stream> Link<P, S> {
             × Consumes (S.left self.old.machine.stream) (S.left self.new.machine.stream) more
             × TakesIn P.hears P.idle P.between self.new.machine.stage self.old.machine.protocol
             more self.new.machine.protocol) }
+        ensures others { (WantsRead self.old.machine.stage self.old.machine.is_lost
+            self.old.machine.due → ⊥) → self.new.machine ≡ self.old.machine }
         ensures end { WantsRead self.old.machine.stage self.old.machine.is_lost
             self.old.machine.due
             → 0 < length buffer.old → result ≡ Ok 0 → IsAtEnd (S.left self.new.machine.stream) }
@@ -237,6 +240,10 @@ impl<P: Protocol, S: Stream> Link<P, S> {
         ensures first { self.new.machine.first ≡ self.old.machine.first }
         ensures protocol { self.new.machine.protocol ≡ self.old.machine.protocol }
         ensures stage { self.new.machine.stage ≡ self.old.machine.stage }
+        ensures none { self.old.machine.is_lost ≡ false → self.old.machine.due ≢ []
+            → result ≡ Ok 0 → self.new.machine.is_lost ≡ true }
+        ensures lost { self.old.machine.is_lost ≡ true → self.new.machine ≡ self.old.machine }
+        ensures kept { OnErr result (self.new.machine.due ≡ self.old.machine.due) }
         ensures wrote { self.old.machine.is_lost ≡ false
             → IfOk result (λ n. Appends (S.held self.old.machine.stream)
             (S.held self.new.machine.stream) (take n self.old.machine.due)

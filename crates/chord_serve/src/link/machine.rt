@@ -120,6 +120,7 @@ impl<P: Protocol, S: Stream> Machine<P, S> {
           stream = self.new.stream;
           is_lost = self.new.is_lost;
         } }
+        ensures none { result ≡ Ok 0 → self.new.is_lost ≡ true }
         ensures ok { IfOk result (λ n. Appends (S.held self.old.stream) (S.held self.new.stream)
             (take n self.old.due) × (self.new.due ≡ drop n self.old.due)) }
         ensures err { OnErr result (Keeps (S.held self.old.stream) (S.held self.new.stream)

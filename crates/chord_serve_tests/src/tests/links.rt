@@ -118,7 +118,7 @@ fn left_of<A: Drop>(parted: Parted<A>) -> Option<(u64, u64)> {
     }
 }
 
-/// A link over a session that was opened, with reads and writes of at most so many bytes.
+/// A link over a session that was opened, whose reads and writes have at most these sizes, in bytes.
 fn drive_session<A: Asker + Drop>(
     alloc: Global,
     input: &[u8],
