@@ -312,7 +312,7 @@ impl<'a, J: Naming, S: EntryStore, C: AskingCore> RingCaller<'a, J, S, C> {
     {
         match way.route {
             Route::Inbox => self.ring.post(rt, Target::Node(way.via), envelope),
-            Route::Carried => match self.carry(rt, way.via, envelope, number) {
+            Route::Carried | Route::Tried => match self.carry(rt, way.via, envelope, number) {
                 Err(WaitFault::NoAnswer) => {}
                 ended => return ended,
             },
@@ -342,6 +342,25 @@ impl<'a, J: Naming, S: EntryStore, C: AskingCore> RingCaller<'a, J, S, C> {
         match route {
             Route::Inbox => self.ring.wait_of_try(),
             Route::Carried => Duration::from_micros(FIRST_PAUSE_US),
+            Route::Tried => Duration::ZERO,
+        }
+    }
+
+    /// How long a try lasts.
+    fn limit_of_try(&self, route: Route) -> Duration {
+        match route {
+            Route::Inbox | Route::Carried => self.ring.wait_of_try(),
+            Route::Tried => Duration::ZERO,
+        }
+    }
+
+    /// How many tries a request has.
+    fn tries(&self, route: Route) -> u64
+        ensures { 1 ≤ result }
+    {
+        match route {
+            Route::Inbox | Route::Carried => self.ring.tries(),
+            Route::Tried => 1,
         }
     }
 
@@ -359,7 +378,9 @@ impl<'a, J: Naming, S: EntryStore, C: AskingCore> RingCaller<'a, J, S, C> {
         let start = Instant::now(rt).ok();
         let mut pause = self.first_wait(way.route);
         for _ in 0..MOST_SENDS {
-            let left = self.ring.time_left(rt, &start, self.ring.wait_of_try());
+            let left = self
+                .ring
+                .time_left(rt, &start, self.limit_of_try(way.route));
             match self.send_again(rt, way, number, left.min(pause)) {
                 Err(WaitFault::NoAnswer) if pause < left => {}
                 ended => return ended,
@@ -402,14 +423,14 @@ impl<'a, J: Naming, S: EntryStore, C: AskingCore> RingCaller<'a, J, S, C> {
         requires call { IsCallOf self.old.caller number envelope }
         ensures { Ended C.ends number self.old result self.new }
     {
-        let tries = self.ring.tries();
+        let tries = self.tries(way.route);
         let limit = self.first_wait(way.route);
         match self.send(rt, way, envelope, number, limit) {
             Err(WaitFault::NoAnswer) => {}
             ended => return ended,
         }
         match way.route {
-            Route::Inbox => self.send_repeatedly(rt, way, number, tries - 1),
+            Route::Inbox | Route::Tried => self.send_repeatedly(rt, way, number, tries - 1),
             Route::Carried => self.send_repeatedly(rt, way, number, tries),
         }
     }
@@ -450,7 +471,7 @@ impl<'a, J: Naming, S: EntryStore, C: AskingCore> RingCaller<'a, J, S, C> {
         if !self.ring.was_admitted(way.via) {
             return Err(RetryFault::NoSuchNode);
         }
-        let tries = self.ring.tries();
+        let tries = self.tries(way.route);
         match self.send_repeatedly(rt, way, number, tries) {
             Ok(reply) => Ok(reply),
             Err(fault) => Err(RetryFault::Wait(fault)),
@@ -491,6 +512,40 @@ impl<'a, J: Naming, S: EntryStore, C: AskingCore> RingCaller<'a, J, S, C> {
         ensures shown { CallerShown self.new }
     {
         let answered = self.send_pending(rt, Way::carried(via), number);
+        self.look();
+        answered
+    }
+
+    /// Submits a request and carries it once, as `call` does, without a wait. One that got no answer
+    /// stays pending, for `try_call_again`.
+    pub fn try_call<R: Wait + Clock>(
+        &mut self,
+        rt: &R,
+        via: u64,
+        request: Request,
+    ) -> Result<Reply, AskFault>
+        ensures answer { CallIs C.ends request self.old result self.new }
+        ensures placed { J.name.slots ≤ via → MaySubmit request self.old.caller → result ≡ Err (AskFault.Begin BeginFault.NoSuchNode) }
+        ensures shown { CallerShown self.new }
+    {
+        let answered = self.submit_and_send(rt, Way::tried(via), request);
+        self.look();
+        answered
+    }
+
+    /// Carries a pending request once more under its number, or takes what came for it, without a
+    /// wait.
+    pub fn try_call_again<R: Wait + Clock>(
+        &mut self,
+        rt: &R,
+        via: u64,
+        number: u64,
+    ) -> Result<Reply, RetryFault>
+        ensures answer { RetryIs C.ends number self.old result self.new }
+        ensures placed { J.name.slots ≤ via → is_pending number self.old.caller ≡ true → result ≡ Err RetryFault.NoSuchNode }
+        ensures shown { CallerShown self.new }
+    {
+        let answered = self.send_pending(rt, Way::tried(via), number);
         self.look();
         answered
     }

@@ -1,4 +1,4 @@
-//! Two ways to send a request.
+//! Ways to send a request.
 ghost use Rattle.std.specs.Prelude.{◌≡◌};
 
 /// How a request gets to the nodes.
@@ -8,6 +8,8 @@ pub(crate) enum Route {
     Inbox,
     /// The calling thread carries it from node to node, and does each node's event.
     Carried,
+    /// So once, without a wait.
+    Tried,
 }
 
 /// How a request gets to the nodes, and where it begins.
@@ -34,6 +36,16 @@ impl Way {
     {
         Way {
             route: Route::Carried,
+            via,
+        }
+    }
+
+    /// Carried once by the calling thread, from this node on.
+    pub fn tried(via: u64) -> Way
+        ensures { result.via ≡ via }
+    {
+        Way {
+            route: Route::Tried,
             via,
         }
     }

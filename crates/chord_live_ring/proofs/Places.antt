@@ -1,5 +1,5 @@
 -- Events of a node that leave its place in the ring as it is.
-use Rattle.std.proofs.Common.{◌≡◌, Bool, true, false, Some, None, refl, sym, ap, ◌∙◌}
+use Rattle.std.proofs.Common.{◌≡◌, Bool, true, false, Some, refl, sym, ap, ◌∙◌}
 use Rattle.chord_links.specs.NodeLinks.{NodeLinks}
 use Rattle.chord_model.specs.declared.phase.Phase.{Phase}
 use Rattle.chord_model.specs.declared.phase.Phase.TheVariants as phase

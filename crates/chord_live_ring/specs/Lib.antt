@@ -7,3 +7,4 @@ pub mod Refused
 pub mod SeatedCalls
 pub mod Seats
 pub mod Sights
+pub mod Trails

@@ -3,6 +3,7 @@ ghost use Rattle.std.specs.Prelude.{◌≡◌, ◌≢◌, ◌≤◌, ◌<◌, []
 ghost use Rattle.chord_live_ring.specs.declared.slot.SlotState.TheVariants.{Here, Crashed};
 ghost use Rattle.chord_live_ring.specs.Departures.{LeavesEmpty, crashed_after, node_after, seated_after};
 ghost use Rattle.chord_live_steps.specs.Departures.{AreTaken, MayDepart, departed};
+ghost use Rattle.chord_live_steps.specs.declared.departure.Departure.TheVariants.{Crash};
 
 use crate::board::Board;
 use crate::fault::{CrashFault, DepartFault, RingRetireFault};
@@ -123,19 +124,44 @@ impl<J: Naming, S: EntryStore> Ring<J, S> {
             return Err(DepartFault::Unsafe);
         };
         let mut guard = slot.state.lock(rt);
-        match &mut *guard {
-            SlotState::Vacant => return Err(DepartFault::Unsafe),
-            SlotState::Here(seated) | SlotState::Crashed(seated) => {
-                self.lend(rt, numbers, board, departure, at, seated)?
-            }
-        }
+        self.lend_in(rt, numbers, board, departure, at, &mut *guard)?;
         if departure.number() == at as u64 {
             slot.live.store(false, Ordering::SeqCst);
-            if let Departure::Crash(_) = departure {
-                guard.halt();
-            }
         }
         Ok(())
+    }
+
+    /// Takes the seat of the node in a slot, as `lend` does. A node that crashes so acts no more.
+    #[cycle(depart)]
+    fn lend_in(
+        &self,
+        rt: &impl Wait,
+        numbers: &mut Numbers<J>,
+        board: &mut Board<J>,
+        departure: Departure,
+        at: usize,
+        state: &mut SlotState<J, S>,
+    ) -> Result<(), DepartFault>
+        requires count { at < numbers.old.nodes }
+        requires slot { at < J.name.slots }
+        requires taken { AreTaken at numbers.old.taken board.old }
+        requires may { MayDepart departure at numbers.old.taken }
+        ensures done { OnOk result (numbers.new ≡ record numbers.old { taken = map (departed departure) numbers.old.taken }) }
+        ensures kept { OnErr result (numbers.new ≡ numbers.old) }
+        ensures halted { OnOk result ((seated : _) → state.old ≡ Here seated → departure ≡ Crash at
+            → state.new ≡ Crashed (record seated { crashed = true })) }
+    {
+        match state {
+            SlotState::Vacant => Err(DepartFault::Unsafe),
+            SlotState::Crashed(seated) => self.lend(rt, numbers, board, departure, at, seated),
+            SlotState::Here(seated) => {
+                self.lend(rt, numbers, board, departure, at, seated)?;
+                if departure == Departure::Crash(at as u64) {
+                    state.halt();
+                }
+                Ok(())
+            }
+        }
     }
 
     /// Decides, with the seats of all nodes.
@@ -176,6 +202,7 @@ impl<J: Naming, S: EntryStore> Ring<J, S> {
         ensures done { OnOk result (numbers.new ≡ record numbers.old { taken = map (departed departure) numbers.old.taken }) }
         ensures kept { OnErr result (numbers.new ≡ numbers.old) }
         ensures left { OnOk result (seated.new ≡ seated_after departure seated.old) }
+        ensures number { OnOk result (seated.old.node.number ≡ at) }
         ensures same { OnErr result (seated.new ≡ seated.old) }
     {
         if seated.number() != at as u64 {

@@ -33,6 +33,7 @@ mod round;
 mod seated_node;
 mod slot;
 mod tick;
+mod trail;
 mod waiting;
 mod work;
 

@@ -67,6 +67,7 @@ impl<J: Naming, S: EntryStore> SlotState<J, S> {
 
     /// The node in the slot crashed: it acts no more.
     pub fn halt(&mut self)
+        requires { (seated : _) → self.old ≡ Here seated → seated.crashed ≡ true }
         ensures here { (seated : _) → self.old ≡ Here seated → self.new ≡ Crashed seated }
         ensures other { ((seated : _) → self.old ≢ Here seated) → self.new ≡ self.old }
     {

@@ -94,7 +94,8 @@ impl<J: Naming, S: EntryStore> Ring<J, S> {
         }
     }
 
-    /// Waits for an envelope: polls briefly if it is likely to come soon, then sleeps.
+    /// Waits for an envelope: polls briefly if it is likely to come soon, then sleeps. With no time
+    /// to wait it only looks.
     pub(crate) fn receive<R: Wait + Clock>(
         &self,
         rt: &R,
@@ -102,7 +103,7 @@ impl<J: Naming, S: EntryStore> Ring<J, S> {
         wakes: Wakes,
         limit: Duration,
     ) -> Option<Envelope<J>> {
-        if wakes == Wakes::AtOnce {
+        if wakes == Wakes::AtOnce && !limit.is_zero() {
             if let Some(envelope) = self.poll(rt, from) {
                 return Some(envelope);
             }

@@ -4,6 +4,7 @@ use crate::carried::Carried;
 use crate::probe::{NoProbe, Probe};
 use crate::ring::Ring;
 use crate::slot::SlotState;
+use crate::trail::Trail;
 use crate::waiting::{Wakes, lock_soon};
 use chord_live_steps::{Keyed, Target};
 use chord_live_types::NoSuchNode;
@@ -140,15 +141,22 @@ impl<J: Naming, S: EntryStore> Ring<J, S> {
 
     /// Carries an envelope and its key's identifier from node to node, each event under that node's
     /// lock, until a node answers a caller. It begins at the node `via`, or at the next live one
-    /// where that has gone or crashed.
+    /// where that has gone or crashed. It is lost once it goes round, as where the node crashed that
+    /// holds its key.
     pub fn carry_keyed(&self, rt: &impl Wait, via: u64, keyed: Keyed<J>) -> Option<Carried<J>> {
         let mut to = self.live_from(via);
+        let mut trail = Trail::new(to);
         let mut passed = keyed;
         for _ in 0..HOPS {
             let (target, sent) = self.answer(rt, to, &NoProbe, passed)?;
             passed = sent;
             match target {
-                Target::Node(next) => to = next,
+                Target::Node(next) => {
+                    if trail.comes_back(next) {
+                        break;
+                    }
+                    to = next;
+                }
                 Target::Caller(caller) => {
                     return Some(Carried {
                         from: to,

@@ -35,6 +35,7 @@ mod resting;
 mod settling;
 mod sights;
 mod standing;
+mod trying;
 mod upkeep;
 mod workers;
 

@@ -145,8 +145,8 @@ fn segments_that_adjoin_are_joined(rt: HostRuntime) {
     drop(node);
 }
 
-/// The pairs that node 0 holds at first: three pieces of up to 1,024 at least.
-const PAIRS: u64 = 2_060;
+/// The pairs that node 0 holds at first: three pieces of up to 512 at least.
+const PAIRS: u64 = 1_036;
 
 /// The identifier before A, which leaves node 0 no other one.
 const BEFORE_A: u128 = A - 1;
@@ -211,7 +211,7 @@ pub fn goes_over<J: Naming, S: EntryStore, R: Abort + Wait + Clock>(
     check!(rt; giver.pairs == 0, "node 0 has no pair left");
     check!(rt;
         (3..=5).contains(&giver.counts.handovers.given),
-        "a piece has 513 to 1,024 pairs, and the last may have fewer"
+        "a piece has 257 to 512 pairs, and the last may have fewer"
     );
     drop(giver);
 }
@@ -231,7 +231,7 @@ fn gives_one_piece<R: Abort>(rt: &R, sight: NodeSight) {
     check!(rt; sight.outbox.len() <= 1, "one piece is under way at a time");
     for item in &sight.outbox {
         assert!(rt;
-            item.pairs <= 1_024,
+            item.pairs <= 512,
             "a piece has {} pairs, and each identifier one",
             item.pairs
         );

@@ -34,7 +34,7 @@ fn is_leaving<J: Naming, S: EntryStore, R: Abort + Wait>(rt: &R, alloc: Global, 
 }
 
 /// Ticks until the rescued node retires, at most for 1,000 waits of a millisecond.
-fn hands_over<J: Naming, S: EntryStore, R: Abort + Wait + Clock>(
+pub fn hands_over<J: Naming, S: EntryStore, R: Abort + Wait + Clock>(
     rt: &R,
     alloc: Global,
     ring: &Ring<J, S>,

@@ -421,7 +421,7 @@ pub fn takes_and_crashes<J: Naming, S: EntryStore, R: Abort + Wait + Clock>(
 }
 
 /// Waits until node 0 has an empty outbox.
-fn wait_for_workers<J: Naming, S: EntryStore, R: Abort + Wait + Clock>(
+pub fn wait_for_workers<J: Naming, S: EntryStore, R: Abort + Wait + Clock>(
     rt: &R,
     alloc: Global,
     ring: &Ring<J, S>,

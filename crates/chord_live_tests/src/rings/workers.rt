@@ -1,6 +1,6 @@
 //! Workers of one or two nodes, and what is done beside them.
 
-use super::{callers, growths, kinds, pairs_of_nodes, pieces, settling, sights};
+use super::{callers, growths, kinds, pairs_of_nodes, pieces, settling, sights, trying};
 use crate::checks::check;
 use chord_live_ring::{NoProbe, Ring};
 use chord_store::EntryStore;
@@ -31,6 +31,8 @@ pub enum Deed {
     LeaveToFull,
     /// A request begins at node 1.
     BeginAtOne,
+    /// Node 1 crashes while a client tries to insert there.
+    Try,
 }
 
 impl Deed {
@@ -49,6 +51,7 @@ impl Deed {
             Deed::TakeAndCrash => sights::takes_and_crashes(rt, alloc, ring),
             Deed::LeaveToFull => pairs_of_nodes::leaves_to_full(rt, alloc, ring),
             Deed::BeginAtOne => pairs_of_nodes::begins_at_one(rt, alloc, ring),
+            Deed::Try => trying::tries(rt, alloc, ring),
         }
     }
 }

@@ -1,4 +1,4 @@
-use Rattle.std.proofs.Common.{None, Some, Bool, ap, ◌∙◌, sym}
+use Rattle.std.proofs.Common.{None, Some, ap, ◌∙◌, sym}
 use Rattle.chord_live_ring.proofs.Coming.{acted, shown_by}
 use Rattle.chord_live_steps.specs.Dealt.{message_in}
 use Rattle.chord_model.specs.Node.{Node}
