@@ -22,10 +22,10 @@ use Rattle.chord_resp_serve.specs.Words.{AnswersTable, AnswersWords, with_flow}
 abbrev pub Extends : List ℕ → List ℕ → Type 0
 Extends old new = (bytes : List ℕ) × (new ≡ old ++ bytes)
 
-same_extends : (old new : List ℕ) → new ≡ old → Extends old new
+pub same_extends : (old new : List ℕ) → new ≡ old → Extends old new
 same_extends old new e = ([], e ∙ sym (append-nil old))
 
-joins_extends : (result : Result (Unit {0}) AllocError) (old new bytes : List ℕ) → Joins result old new bytes → Extends old new
+pub joins_extends : (result : Result (Unit {0}) AllocError) (old new bytes : List ℕ) → Joins result old new bytes → Extends old new
 joins_extends (Ok done) old new bytes e = (bytes, e)
 joins_extends (Err refused) old new bytes e = same_extends old new e
 
@@ -33,7 +33,7 @@ tells_of_extends : (told : Option Refusal) (result : Result (Unit {0}) AllocErro
 tells_of_extends (Some r) result old new p = joins_extends result old new _ p
 tells_of_extends None result old new p = same_extends old new p.1
 
-tells_extends : (about : About) (c : Command) (outcome : Result Tally Stopped) (result : Result (Unit {0}) AllocError) (old new : List ℕ) → Tells about c outcome result old new → Extends old new
+pub tells_extends : (about : About) (c : Command) (outcome : Result Tally Stopped) (result : Result (Unit {0}) AllocError) (old new : List ℕ) → Tells about c outcome result old new → Extends old new
 tells_extends about c (Ok t) result old new p = joins_extends result old new _ p
 tells_extends about c (Err s) result old new p = tells_of_extends (refusal_of (length (requests_of c)) s) result old new p
 

@@ -3,3 +3,4 @@ pub mod Answering
 pub mod Words
 pub mod Connections
 pub mod Stored
+pub mod Waiting

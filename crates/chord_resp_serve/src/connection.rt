@@ -43,7 +43,11 @@ fn asks_info(words: &Words) -> bool
 }
 
 /// The text of INFO, if the words ask for it.
-fn info_for<I: Informs>(alloc: Global, source: &I, words: &Words) -> Result<Vec<u8>, AllocError>
+pub(crate) fn info_for<I: Informs>(
+    alloc: Global,
+    source: &I,
+    words: &Words,
+) -> Result<Vec<u8>, AllocError>
     ensures { IfOk result (λ text. asks_info words.now ≡ true → I.tells source.now text.items) }
 {
     if asks_info(words) {
@@ -55,7 +59,7 @@ fn info_for<I: Informs>(alloc: Global, source: &I, words: &Words) -> Result<Vec<
 
 /// Tells that the bytes are no command, unless they are of another protocol: whoever made a browser
 /// write those is told nothing.
-fn tell_error(alloc: Global, due: &mut Due, error: ProtocolError) -> Served
+pub(crate) fn tell_error(alloc: Global, due: &mut Due, error: ProtocolError) -> Served
     ensures { TellsProtocol error result due.old due.new }
 {
     if error == ProtocolError::Foreign {

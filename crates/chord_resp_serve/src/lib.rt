@@ -8,8 +8,10 @@
 mod about;
 mod answer;
 mod asking;
+mod command_protocol;
 mod connection;
 mod flow;
+mod hearing;
 mod informs;
 pub mod laws;
 mod numbers;
@@ -18,9 +20,11 @@ mod requests;
 mod session;
 mod tally;
 mod waiting;
+mod waiting_command;
 mod words;
 
 pub use about::About;
+pub use command_protocol::CommandProtocol;
 pub use connection::ServerInfo;
 pub use flow::Flow;
 pub use informs::Informs;

@@ -14,7 +14,7 @@ use chord_serve::Asker;
 use std::alloc::{AllocError, Global};
 
 /// Adds the answer to a command that asked `requests` requests, or its error.
-fn tell(
+pub(crate) fn tell(
     alloc: Global,
     out: &mut Vec<u8>,
     about: About<'_>,

@@ -10,7 +10,7 @@ use chord_resp::{Command, Denied, Words, command_of, put_refusal};
 use chord_serve::Asker;
 use std::alloc::{AllocError, Global};
 
-fn flow_of(command: &Command) -> Flow
+pub(crate) fn flow_of(command: &Command) -> Flow
     ensures { result ≡ flow_of command.now }
 {
     match command {
@@ -20,7 +20,7 @@ fn flow_of(command: &Command) -> Flow
 }
 
 /// The flow, if there was memory to tell the answer.
-fn with_flow(told: Result<(), AllocError>, flow: Flow) -> Result<Flow, AllocError>
+pub(crate) fn with_flow(told: Result<(), AllocError>, flow: Flow) -> Result<Flow, AllocError>
     ensures { result ≡ with_flow told flow }
 {
     match told {

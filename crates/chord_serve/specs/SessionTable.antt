@@ -1,6 +1,6 @@
 -- How sessions begin, lose their connections and are resumed. Source: docs/protocol.md.
-use Rattle.std.specs.Prelude.{◌≡◌, ℕ, Bool, ◌||◌, true, false, List, [], ◌∷◌, ◌++◌, Option, Some, None, is_some, Result, Ok, Err, slice_get, option_and_then, option_map}
-use Rattle.std.specs.List.{position, remove}
+use Rattle.std.specs.Prelude.{◌≡◌, ℕ, ◌==◌, Bool, ◌||◌, true, false, List, [], ◌∷◌, ◌++◌, Option, Some, None, is_some, Result, Ok, Err, slice_get, option_and_then, option_map}
+use Rattle.std.specs.List.{find, position, remove}
 use Rattle.std.specs.Str.{bytes_eq}
 use Rattle.chord_wire.specs.declared.token.Token.{Token}
 use Rattle.chord_serve.specs.declared.client_session.ClientSession.{ClientSession}
@@ -19,6 +19,10 @@ held_at token held = position (λ (h : HeldSession). bytes_eq h.token.bytes toke
 -- the connection that has the session of this token
 abbrev pub connection_of : Token → List HeldSession → Option ℕ
 connection_of token held = option_and_then (λ place. option_map (λ (h : HeldSession). h.connection) (slice_get held place)) (held_at token held)
+
+-- the token of the first session that this connection has
+abbrev pub token_of : ℕ → List HeldSession → Option Token
+token_of connection held = option_map (λ (h : HeldSession). h.token) (find (λ (h : HeldSession). h.connection == connection) held)
 
 -- whether a session has this token
 abbrev pub is_known : {A : Type 0} → Token → TableState A → Bool

@@ -37,6 +37,9 @@ pub trait Asker {
     /// Hears that a request is refused, so that it is not asked.
     fn refuse(&self) {}
 
+    /// Hears that its last request, which got no answer, is told as such.
+    fn leave_unanswered(&self) {}
+
     /// Whether the last request, which got no answer, may still get one by a further try.
     fn may_try_again(&self) -> bool {
         false

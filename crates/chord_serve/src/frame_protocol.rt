@@ -98,6 +98,9 @@ impl<A: Asker> FrameProtocol<A> {
             self.waiting = Some(number);
             return Ok(Step::Later);
         }
+        if matches!(answer, Asked::NoAnswer) {
+            self.client.asker.leave_unanswered();
+        }
         match self.client.tell(alloc, due, number, answer) {
             Ok(()) => Ok(Step::Answered),
             Err(_) => {

@@ -8,8 +8,9 @@ use crate::served::Served;
 use chord_wire::{FaultCode, Opening, SessionFrame, SessionFrames};
 use std::io::Read;
 
-// The open that the first frame is, if any; nothing where more bytes must come.
-fn look(frames: &mut SessionFrames) -> Result<Option<Option<Opening>>, Served>
+/// The open that the first frame of a connection is, if it is one. It is taken off then, and another
+/// one is not. None where more bytes must come.
+pub fn first_opening(frames: &mut SessionFrames) -> Result<Option<Option<Opening>>, Served>
     ensures { LooksAt result frames.old frames.new }
 {
     if frames.begins_with_open() == Some(false) {
@@ -48,7 +49,7 @@ fn look_further<R: Read>(
         return Ok(Some(None));
     }
     match frames.feed(&buffer[..count]) {
-        Ok(()) => look(frames),
+        Ok(()) => first_opening(frames),
         Err(_) => Err(Served::Memory),
     }
 }
@@ -64,7 +65,7 @@ pub fn greet<R: Read>(
     ensures greets { Greets result frames.old (R.remaining reader.old) (R.remaining reader.new) frames.new }
     ensures bytes { ReadsBetween 0 (4096 * turns) (R.remaining reader.old) (R.remaining reader.new) }
 {
-    if let Some(beginning) = look(frames)? {
+    if let Some(beginning) = first_opening(frames)? {
         return Ok(beginning);
     }
     for _ in 0..turns {

@@ -41,7 +41,7 @@ pub use client_session::ClientSession;
 pub use dialogue::Dialogue;
 pub use due::Due;
 pub use frame_protocol::FrameProtocol;
-pub use greeting::greet;
+pub use greeting::{first_opening, greet};
 pub use kept_sessions::{KeptSession, KeptSessions};
 pub use link::connection::Link;
 pub use link::protocol::Protocol;

@@ -1,7 +1,7 @@
 //! The sessions of a server.
 ghost use Rattle.std.specs.Prelude.{◌≡◌, ◌<◌, ◌+◌, [], IfSome, is_some, length};
 ghost use Rattle.chord_serve.specs.Keeping.{oldest_of, bytes_kept};
-ghost use Rattle.chord_serve.specs.SessionTable.{held_at, connection_of, BeginsAs, ResumesAs, PartsAs, EndsAs, DropsAs};
+ghost use Rattle.chord_serve.specs.SessionTable.{held_at, connection_of, token_of, BeginsAs, ResumesAs, PartsAs, EndsAs, DropsAs};
 
 use crate::client_session::ClientSession;
 use crate::kept_sessions::KeptSessions;
@@ -90,6 +90,14 @@ impl<A> SessionTable<A> {
     {
         let place = held_at(token, &self.held)?;
         Some(self.held[place].connection)
+    }
+
+    /// The token of the session that this connection has, if it has one.
+    pub fn token_of(&self, connection: u64) -> Option<Token>
+        ensures { result ≡ token_of connection self.now.held }
+    {
+        let held = self.held.iter().find(|one| one.connection == connection)?;
+        Some(held.token)
     }
 
     /// Notes that a session of this token begins over this connection.

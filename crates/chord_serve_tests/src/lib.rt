@@ -5,6 +5,8 @@
 #[cfg(test)]
 mod checks;
 #[cfg(test)]
+mod driving;
+#[cfg(test)]
 mod redis;
 #[cfg(test)]
 mod tests;

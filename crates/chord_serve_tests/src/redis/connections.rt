@@ -4,5 +4,6 @@ mod askers;
 mod commands;
 mod foreign;
 mod growths;
+mod links;
 mod parts;
 mod sessions;

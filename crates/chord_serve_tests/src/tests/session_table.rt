@@ -63,6 +63,7 @@ fn a_token_begins_one_session(rt: HostRuntime) {
         table.connection_of(token(2)),
         table.connection_of(token(3)),
     );
+    let tokens = (table.token_of(10), table.token_of(20));
     let count = table.kept_count();
     table.end(token(1));
     let ended = table.connection_of(token(1));
@@ -75,6 +76,7 @@ fn a_token_begins_one_session(rt: HostRuntime) {
         connections == (Some(10), None, None),
         "the first has a connection, the second lost it, there is no third"
     );
+    check!(&rt; tokens == (Some(token(1)), None), "connection 20 has none");
     check!(&rt; count == 1, "the second is kept");
     check!(&rt; ended == None, "the first ended");
     check!(&rt;

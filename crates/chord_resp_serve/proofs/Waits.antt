@@ -1,0 +1,109 @@
+-- What a link's protocol of commands does with a command.
+use Rattle.std.proofs.Common.{◌≡◌, ◌≢◌, ℕ, true, List, [], ◌∷◌, ◌++◌, Some, None, Result, Ok, Err, refl, sym, ap, subst, ◌∙◌, inl, inr}
+use Rattle.std.proofs.lemmas.List.{append-nil}
+use Rattle.std.specs.declared.alloc.AllocError.{AllocError}
+use Rattle.chord_map.specs.declared.request.Request.{Request}
+use Rattle.chord_serve.specs.declared.asker.Asked.{Asked}
+use Rattle.chord_serve.specs.declared.served.Served.TheVariants as served
+use Rattle.chord_serve.specs.Question.{Question}
+use Rattle.chord_serve.specs.Stepping.{IsBefore}
+use Rattle.chord_resp.specs.declared.reading.word.Word.{Word}
+use Rattle.chord_resp.specs.declared.table.command.Command.{Command}
+use Rattle.chord_resp.specs.declared.table.refusal.Refusal.{Refusal}
+use Rattle.chord_resp.specs.Answers.{Joins, error}
+use Rattle.chord_resp.specs.Reading.{reading_of, with_commands}
+use Rattle.chord_resp.specs.Refusals.{refusal_text}
+use Rattle.chord_resp.specs.Table.{command_of}
+use Rattle.chord_resp_serve.specs.declared.about.About.{About}
+use Rattle.chord_resp_serve.specs.declared.command_protocol.CommandProtocol.{CommandProtocol}
+use Rattle.chord_resp_serve.specs.declared.flow.Flow.{Flow}
+use Rattle.chord_resp_serve.specs.declared.flow.Flow.TheVariants as flow
+use Rattle.chord_resp_serve.specs.declared.numbers.Numbers.{Numbers}
+use Rattle.chord_resp_serve.specs.declared.tally.Tally.{Tally}
+use Rattle.chord_resp_serve.specs.declared.tally.Stopped.{Stopped}
+use Rattle.chord_resp_serve.specs.declared.waiting_command.WaitingCommand.{WaitingCommand}
+use Rattle.chord_resp_serve.specs.Asking.{AsksFrom, empty_tally, requests_of}
+use Rattle.chord_resp_serve.specs.Answering.{AnswersCommand, Tells, answer_of}
+use Rattle.chord_resp_serve.specs.Connections.{Knows, asks_info}
+use Rattle.chord_resp_serve.specs.Waiting.{CommandAsked, CommandBegun, CommandIdles, CommandSteps, TakesCommand, TakesWords, step_of}
+use Rattle.chord_resp_serve.specs.Words.{AnswersTable, AnswersWords, flow_of, with_flow}
+use Rattle.chord_resp_serve.proofs.Steps.{goes_on_due, lacks_due, next_answered, quits_due}
+
+module _ {A I : Type 0} (answers : A → Question → Asked → A → Type 0) (tells : I → List ℕ → Type 0) where
+  abbrev P : Type 0
+  P = CommandProtocol A I
+
+  -- what the server of a connection tells, and its number
+  abbrev Told : P → List ℕ → Type 0
+  Told c = tells c.server.source.now
+
+  -- nothing waits, so this is the state before the next command
+  pub fresh : (c d : P) → d.waiting ≡ None → IsBefore CommandIdles (CommandBegun answers tells) c d → c ≡ d
+  fresh c d none (inl (idle, same)) = same
+  fresh c d none (inr (waiting, is, asked)) = let e : None ≡ Some waiting = sym none ∙ is in absurd cc
+
+  -- the words that were taken off are answered
+  pub told_steps : (told : Result Flow AllocError) (c d : P) (words : List Word) (about : About) (old new : List ℕ) → TakesWords c words d → d.waiting ≡ None → Knows answers (Told c) c.server.number words about
+      → AnswersWords answers about words c.numbers c.asker told old new d.numbers d.asker → CommandSteps answers tells (step_of told) c old new d
+  told_steps (Ok flow.GoesOn) c d words about old new taken idle knows p =
+      let q = next_answered answers (λ h. tells h.source.now) (λ h. h.number) (λ x. x.server) (λ x. x.commands) (λ x. x.numbers) (λ x. x.asker) (Ok true) c d words old new taken.next taken.server
+      (goes_on_due answers (Told c) c.server.number words about knows c.numbers d.numbers c.asker d.asker old new p) in
+      (q.0, q.1, idle, q.2)
+  told_steps (Ok flow.Quits) c d words about old new taken idle knows p =
+      next_answered answers (λ h. tells h.source.now) (λ h. h.number) (λ x. x.server) (λ x. x.commands) (λ x. x.numbers) (λ x. x.asker) (Err served.Quit) c d words old new taken.next taken.server
+      (quits_due answers (Told c) c.server.number words about knows c.numbers d.numbers c.asker d.asker old new p)
+  told_steps (Err refused) c d words about old new taken idle knows p =
+      next_answered answers (λ h. tells h.source.now) (λ h. h.number) (λ x. x.server) (λ x. x.commands) (λ x. x.numbers) (λ x. x.asker) (Err served.Memory) c d words old new taken.next taken.server
+      (lacks_due answers (Told c) c.server.number words about knows refused c.numbers d.numbers c.asker d.asker old new p)
+
+  -- memory ran out before anything was asked
+  pub nothing_asked : (c d : P) (old new : List ℕ) → d.asker ≡ c.asker → new ≡ old → CommandSteps answers tells (Err served.Memory) c old new d
+  nothing_asked c d old new asker same = ([], record { bytes_are = refl; last = inl asker }, same ∙ sym (append-nil old))
+
+  -- a command knows the number of its connection, and this text
+  abbrev pub IsAbout : P → About → List ℕ → Type 0
+  IsAbout c about info = (about.number ≡ c.server.number) × (about.info.now ≡ info)
+
+  known : (c d : P) (command : Command) (info : List ℕ) (about : About) (p : TakesCommand tells c command info d) → IsAbout c about info → Knows answers (Told c) c.server.number p.words about
+  known c d _ info about p (number, text) = record { numbered = number; informed = λ asks. subst (λ (x : List ℕ). tells c.server.source.now x) (sym text) (p.informed asks) }
+
+  -- a command is done and told
+  pub command_steps : (c d e : P) (command : Command) (info : List ℕ) (about : About) (told : Result (Unit {0}) AllocError) (result : Result Flow AllocError) (old new : List ℕ)
+      → TakesCommand tells c command info d → IsAbout c about info → e.commands ≡ d.commands → e.server ≡ d.server → e.waiting ≡ None
+      → AnswersCommand answers about command c.numbers c.asker told old new e.numbers e.asker → result ≡ with_flow told (flow_of command) → CommandSteps answers tells (step_of result) c old new e
+  command_steps c d e command info about told result old new p knows commands server idle done flows =
+      let table : AnswersTable answers (Ok command) about c.numbers c.asker result old new e.numbers e.asker = (told, done, flows) in
+      let words : AnswersWords answers about p.words c.numbers c.asker result old new e.numbers e.asker =
+      inr (subst (λ (t : Result Command Refusal). AnswersTable answers t about c.numbers c.asker result old new e.numbers e.asker) (sym p.command_is) table) in
+      let taken : TakesWords c p.words e = record { next = p.taken.next ∙ ap (λ r. with_commands (p.words ∷ []) (reading_of r)) (sym commands); server = server ∙ p.taken.server } in
+      told_steps result c e p.words about old new taken idle (known c d command info about p knows) words
+
+  -- a command that asks nothing is done
+  pub asks_nothing : (about : About) (c : Command) (n : Numbers) (a : A) (told : Result (Unit {0}) AllocError) (old new : List ℕ) → requests_of c ≡ [] → Joins told old new (answer_of about c empty_tally)
+      → AnswersCommand answers about c n a told old new n a
+  asks_nothing about c n a told old new none joins = inl (record { numbers = refl; asker = refl; told = inl (none, joins) })
+
+  pub some_asked : (xs first rest : List Request) (next : Request) → xs ≡ first ++ next ∷ rest → xs ≢ []
+  some_asked xs [] rest next e none = cc
+  some_asked xs (r ∷ first) rest next e none = cc
+
+  -- one whose requests were asked is done
+  pub asks_all : (about : About) (c : P) (d : P) (waiting : WaitingCommand) (answer : Asked) (outcome : Result Tally Stopped) (told : Result (Unit {0}) AllocError) (old new : List ℕ) (n : Numbers) (a : A)
+      → CommandAsked answers tells c waiting answer d → AsksFrom answers c.numbers c.asker empty_tally waiting.requests outcome n a → Tells about waiting.command outcome told old new
+      → AnswersCommand answers about waiting.command c.numbers c.asker told old new n a
+  asks_all about c d waiting _ outcome told old new n a p asked tells = inr (record {
+    asks = rw (sym waiting.asks) (some_asked waiting.requests p.asked.first p.asked.rest p.asked.next p.asked.parts);
+    outcome = outcome;
+    asked = rw (sym waiting.asks) asked;
+    told = tells;
+  })
+
+  -- words that are no command are told so, and nothing is asked
+  pub refused_steps : (c d : P) (words : List Word) (info : List ℕ) (r : Refusal) (told : Result (Unit {0}) AllocError) (result : Result Flow AllocError) (old new : List ℕ)
+      → TakesWords c words d → d.waiting ≡ None → c.numbers ≡ d.numbers → c.asker ≡ d.asker → (asks_info words ≡ true → tells d.server.source.now info)
+      → command_of words ≡ Err r → Joins told old new (error (refusal_text r)) → result ≡ with_flow told flow.GoesOn → CommandSteps answers tells (step_of result) c old new d
+  refused_steps c d words info r told result old new taken idle numbers asker informed is joins flows =
+      let about : About = record { number = c.server.number; info = record { ref_ptr = (0, 0); now = info } } in
+      let knows : Knows answers (Told c) c.server.number words about = record { numbered = refl; informed = λ asks. subst (λ h. tells h.source.now info) taken.server (informed asks) } in
+      let table : AnswersTable answers (Err r) about c.numbers c.asker result old new d.numbers d.asker = (told, sym numbers, sym asker, joins, flows) in
+      told_steps result c d words about old new taken idle knows (inr (subst (λ (t : Result Command Refusal). AnswersTable answers t about c.numbers c.asker result old new d.numbers d.asker) (sym is) table))
