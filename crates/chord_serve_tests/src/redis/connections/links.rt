@@ -26,8 +26,8 @@ struct Driven<A> {
     asker: A,
 }
 
-/// A link over a connection, with reads of at most so many bytes. A command that waits is stopped
-/// behind this many tries of its requests.
+/// A link over a connection whose reads take at most `step` bytes. A command that waits is stopped
+/// behind `patience` tries of its requests.
 fn drive_commands<A: Asker + Drop>(
     alloc: Global,
     input: &[u8],
