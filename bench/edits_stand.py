@@ -8,34 +8,35 @@ Each old text stands exactly once in the file, as the pairs above have left it. 
 where one does not.
 """
 
-import glob
+import collections
 import os
 import sys
 
+from edits_read import edits_of
 
-def faults_of(edit, crate):
+
+def faults_of(lines, crate):
     """The faults of an edit of a crate."""
     texts, file, old, found = {}, None, None, []
-    with open(edit, encoding="utf-8") as lines:
-        for line in lines.read().splitlines():
-            word, _, rest = line.partition(":")
-            text = rest[1:]
-            if word == "file":
-                file = f"{crate}/{text.strip()}"
-                if not os.path.isfile(file):
-                    return [f"no file {file}"]
-                if file not in texts:
-                    with open(file, encoding="utf-8") as whole:
-                        texts[file] = whole.read()
-            elif word == "old" and file and old is None:
-                old, count = text, texts[file].count(text)
-                if count != 1:
-                    found.append(f"its old text stands {count} times in {file}: {text.strip()}")
-            elif word == "new" and old is not None:
-                texts[file] = texts[file].replace(old, text, 1)
-                old = None
-            elif line.strip():
-                found.append(f"a line of another kind or out of place: {line.strip()}")
+    for line in lines:
+        word, _, rest = line.partition(":")
+        text = rest[1:]
+        if word == "file":
+            file = f"{crate}/{text.strip()}"
+            if not os.path.isfile(file):
+                return [f"no file {file}"]
+            if file not in texts:
+                with open(file, encoding="utf-8") as whole:
+                    texts[file] = whole.read()
+        elif word == "old" and file and old is None:
+            old, count = text, texts[file].count(text)
+            if count != 1:
+                found.append(f"its old text stands {count} times in {file}: {text.strip()}")
+        elif word == "new" and old is not None:
+            texts[file] = texts[file].replace(old, text, 1)
+            old = None
+        elif line.strip():
+            found.append(f"a line of another kind or out of place: {line.strip()}")
     return found + ["an old text without a new one"] * (old is not None)
 
 
@@ -44,11 +45,13 @@ def main():
     names = sys.argv[1:] or sorted(os.listdir("crates"))
     is_well = True
     for name in names:
-        for folder in (f"edits/{name}", f"crates/{name}/must-fail"):
-            for edit in sorted(glob.glob(f"{folder}/*.edit")):
-                for fault in faults_of(edit, f"crates/{name}"):
-                    print(f"{edit}: {fault}")
-                    is_well = False
+        edits = edits_of(".", name)
+        count = collections.Counter(edit for edit, _ in edits)
+        for edit, lines in edits:
+            faults = faults_of(lines, f"crates/{name}") if edit else ["lines without a name"]
+            for fault in faults + ["a name of two edits"] * (count[edit] > 1):
+                print(f"{name}/{edit}: {fault}")
+                is_well = False
     sys.exit(0 if is_well else 1)
 
 

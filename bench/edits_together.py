@@ -3,7 +3,7 @@
     python3 bench/edits_together.py [--jobs N] [--skip FILE] ROOT CRATE..
 
 ROOT is a checkout in which the libraries below each crate are built (`rt ci` and `rt check` build
-them), with edits in edits/CRATE and in crates/CRATE/must-fail. A function is proved against the
+them), with edits in edits/CRATE.edits and in crates/CRATE/must-fail. A function is proved against the
 contracts of those that it calls, never against their bodies. So edits of different functions do not
 touch each other's proofs, and one check tries up to 16 of them: it says of each function whether it
 is proved. One that calls a function which is not proved may not be tried itself, and its edit goes
@@ -32,6 +32,8 @@ import threading
 
 sys.path.insert(0, os.path.dirname(os.path.realpath(shutil.which("rt"))))
 import rtlib  # noqa: E402  (the toolchain's own, beside its command)
+
+from edits_read import edits_of  # noqa: E402
 
 # Commands that end with this one.
 GUARD = rtlib.guarded()
@@ -104,11 +106,11 @@ def without_parameters(head):
 class Edit:
     """An edit, and the functions that it changes; None among them is a place outside of functions."""
 
-    def __init__(self, path, crate):
+    def __init__(self, name, lines, crate):
         self.crate, self.pairs = crate, []
-        self.name = f"{crate.name}/{os.path.basename(path).removesuffix('.edit')}"
+        self.name = f"{crate.name}/{name}"
         file = old = None
-        for line in text_of(path).splitlines():
+        for line in lines:
             word, _, rest = line.partition(":")
             if word == "file":
                 file = rest.strip()
@@ -227,9 +229,8 @@ class Tries:
 
     def __init__(self, root, name, say, skips=()):
         self.crate, self.say, self.fates = rtlib.Crate(f"{root}/crates/{name}", root, {}), say, {}
-        folders = [f"{root}/edits/{name}", f"{self.crate.folder}/must-fail"]
-        paths = sorted(path for it in folders for path in glob.glob(f"{it}/*.edit"))
-        self.edits = [it for it in (Edit(path, self.crate) for path in paths) if it.name not in skips]
+        edits = (Edit(*it, self.crate) for it in edits_of(root, name))
+        self.edits = [it for it in edits if it.name not in skips]
         self.kept = None
 
     def keep(self, room):
