@@ -3,12 +3,12 @@
 
     bench/run resting [SECONDS [CONNECTIONS]]     60 seconds, 1,000 connections
 
-It starts `chord serve --stay --callers 1024` over 16 nodes with tree stores. First it tells the part
-of a processor that the server takes while it has no connection. Then it opens the connections, asks
-an insert and a retrieve over each, and tells what a connection takes in memory. At last all
-connections ask at once. It does so for connections without sessions and, on a new server, for
-connections that each begin with an Open. It ends with a status other than 0 where an answer is
-missing or wrong.
+It starts `chord serve --stay` over 16 nodes with tree stores, with a caller for each connection.
+First it tells the part of a processor that the server takes while it has no connection. Then it
+opens the connections, asks an insert and a retrieve over each, and tells what a connection takes in
+memory. At last all connections ask at once. It does so for connections without sessions and, on a
+new server, for connections that each begin with an Open. It ends with a status other than 0 where
+an answer is missing or wrong.
 """
 import os
 import resource
@@ -21,7 +21,6 @@ import threading
 import time
 
 NODES = 16
-CALLERS = 1024
 INSERT, RETRIEVE, OPEN = 1, 2, 4
 PROGRAM = "crates/chord_app/out/chord_app"
 
@@ -29,13 +28,13 @@ PROGRAM = "crates/chord_app/out/chord_app"
 class Server:
     """A server that stays, over nodes that are evenly spread."""
 
-    def __init__(self, room):
+    def __init__(self, room, callers):
         plan = os.path.join(room, "plan.toml")
         with open(plan, "w") as it:
             it.write("slots = 16\ncallers = 64\nsuccessors = 4\ntries = 3\nwait = 100\n")
             for place in range(NODES):
                 it.write(f'[[node]]\nid = "{place:x}{"0" * 31}"\nstore = "tree"\n')
-        words = f"serve --port 0 --stay --callers {CALLERS} --plan".split()
+        words = f"serve --port 0 --stay --callers {callers} --plan".split()
         self.process = subprocess.Popen(
             [PROGRAM, *words, plan], stdin=subprocess.PIPE, stdout=subprocess.PIPE, text=True
         )
@@ -160,7 +159,7 @@ def main():
     done = True
     for has_session in (False, True):
         with tempfile.TemporaryDirectory() as room:
-            server = Server(room)
+            server = Server(room, count)
             try:
                 if not has_session:
                     rest(server, seconds)

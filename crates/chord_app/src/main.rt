@@ -12,7 +12,7 @@ use chord_app_options::{
     stores_of,
 };
 use chord_app_plan::{Plan, PlanFault, Settings, StoreKind, read_plan};
-use chord_app_serve::{ServerStores, run, serve, stay};
+use chord_app_serve::{ServerStores, open_files, run, serve, stay};
 use chord_app_sockets::{
     ClientSeconds, Doors, Host, OperatorPort, ProcessFiles, ServerSetup, listen,
 };
@@ -28,7 +28,11 @@ use std::process::ExitCode;
 use std::sync::{Arc, OnceLock, Wait};
 use std::thread::Threads;
 use std::time::Clock;
-use std::{env, io};
+use std::{env, fs, io};
+
+/// How many files a server has open at most beside the connections of its clients: doors, operators,
+/// and two for each event loop.
+const OTHER_FILES: u64 = 128;
 
 /// Does the command `world`.
 fn start_world(rt: &HostRuntime, found: &ArgMatches) -> Result<Finish, Finish> {
@@ -240,8 +244,27 @@ fn serve_over<'a, T: Host>(
             rt.stdin(),
             rt.stdout(),
         )?,
-    }
+    };
     Ok(Finish::Done)
+}
+
+/// Warns if the system lets the process have too few files open for as many clients at once as the
+/// server has callers.
+fn warn_of_files(rt: &HostRuntime, callers: usize) -> Result<(), Finish> {
+    let Ok(limits) = fs::open(rt, "/proc/self/limits") else {
+        return Ok(());
+    };
+    let most = open_files(&limits);
+    drop(limits);
+    match most {
+        Some(most) if most < (callers as u64).saturating_add(OTHER_FILES) => {
+            eprintln!(rt;
+                "warning: at most {most} files may be open, too few for {callers} clients at once: raise that by ulimit -n"
+            )?;
+            Ok(())
+        }
+        _ => Ok(()),
+    }
 }
 
 /// Does the command `serve`.
@@ -272,6 +295,7 @@ fn start_serve<T: Host>(
         notes: Logged::new(rt, level, rt),
     };
     let settings = plan.settings_with(line.slots, line.callers);
+    warn_of_files(rt, settings.callers)?;
     let ended = start_with_stores(rt, threads, &plan, settings, Some(&options));
     drop(options);
     drop(plan);

@@ -1,2 +1,1 @@
-pub mod Habit
-pub mod Leaving
+pub mod Rules

@@ -1,276 +1,629 @@
-//! The thread that answers all connections that are lent to it.
+//! The thread that serves all connections that came to it.
 
-use crate::lent::{Lent, Returned, Why};
-use crate::loops::{WAKE, Waits};
-use crate::prompt_writer::PromptWriter;
-use crate::turn::{Buffers, take_turn};
-use chord_app_sockets::Clients;
-use chord_resp_serve::Informs;
-use chord_serve::Asker;
+use crate::closing::Closing;
+use crate::guest::{Guest, LATE_MILLISECONDS};
+use crate::loops::{Coming, Loops, WAKE, Waits};
+use crate::owner::{Met, Owner};
+use crate::rules::LOOKS_A_SECOND;
+use crate::seat::{Driven, Ready, Seat};
+use crate::timer::Timer;
+use chord_app_sockets::Ended;
+use chord_serve::{Link, Protocol, Served, Stream};
 use crossbeam_channel::Receiver;
 use mio::unix::SourceFd;
 use mio::{Interest, Token};
 use slab::Slab;
 use std::alloc::{AllocError, Global};
-use std::os::fd::AsRawFd;
-use std::sync::Wait;
+use std::mem;
+use std::net::TcpStream;
+use std::os::fd::{AsRawFd, RawFd};
+use std::sync::{Arc, Wait};
 use std::time::{Clock, Duration, Instant};
 
-/// How many milliseconds a wait takes at most while there are connections: then it looks whether
-/// these are to end.
-const WAIT_MILLISECONDS: u64 = 100;
+/// How often the first loop looks for more behind work before it sleeps.
+const POLLS: u32 = 100;
 
-/// How many it takes at most without connections. It is woken for each that is lent.
-const IDLE_MILLISECONDS: u64 = 1_000;
+/// Behind how many waits in a row that found something at once the first loop gives a connection to
+/// another one.
+const BUSY_WAITS: u32 = 256;
 
-/// How many milliseconds the answers behind one wait take at most: else some request waits, for a
-/// node or a lock, and the other connections with it.
-const SLOW_MILLISECONDS: u64 = 30;
+/// How many milliseconds lie between two looks for silent clients.
+const LOOK_MILLISECONDS: u64 = 1_000 / LOOKS_A_SECOND;
 
-/// How often the event loop returns silent connections, in milliseconds: those whose clients sent
-/// nothing since the last time.
-const QUIET_MILLISECONDS: u64 = 250;
+/// How many milliseconds lie between two meetings of a connection that waits.
+const MEETING_MILLISECONDS: u64 = 2;
 
-/// A connection that has something: its key, and whether its client sends no more behind that.
-#[derive(Clone, Copy)]
-struct Ready {
-    key: usize,
-    is_last: bool,
+/// How often a connection that begins is read before others have their turn.
+const MOST_READS: u32 = 4;
+
+/// Where an event loop runs.
+#[derive(Drop)]
+pub(crate) struct Setting<'l, R, O, P: Protocol, S: Stream> {
+    pub rt: &'l R,
+    pub owner: &'l O,
+    pub loops: &'l Loops<P, S>,
+    pub arrivals: &'l Receiver<Coming<P, S>, Global>,
+    /// Whether it is the first one, which keeps its connections until it does not sleep any more.
+    pub is_first: bool,
 }
 
-/// Answers the commands of lent connections. It sleeps while no client sends anything.
+/// A connection of an event loop.
 #[derive(Drop)]
-pub(crate) struct EventLoop<'l, 'a, A, I> {
+enum Place<P: Protocol, S: Stream> {
+    Begins(Guest<S>),
+    Served(Seat<P, S>),
+    Closing(Closing),
+    /// None: it moves to another place.
+    Empty,
+}
+
+/// Serves connections. It sleeps while no client sends anything and no request waits.
+#[derive(Drop)]
+pub(crate) struct EventLoop<'l, R, O, P: Protocol, S: Stream> {
+    setting: Setting<'l, R, O, P, S>,
     alloc: Global,
-    inbox: &'l Receiver<Option<Lent<'a, A, I>>, Global>,
     waits: &'l mut Waits,
-    /// Whether it was woken for what was sent to the event loops, or nothing came for a while.
-    is_woken: bool,
-    /// The connections that have something.
+    places: Slab<Place<P, S>>,
+    /// What each read goes through.
+    buffer: Vec<u8>,
+    /// The connections of which the last wait told.
     ready: Vec<Ready>,
-    lent: Slab<Lent<'a, A, I>>,
-    buffers: Buffers,
+    /// Those that go on behind these.
+    again: Vec<usize>,
+    timer: Timer,
+    /// Whether it was woken for what came from other threads.
+    is_woken: bool,
+    /// How often it still looks for more before it sleeps.
+    polls: u32,
+    /// How many waits in a row found something at once.
+    busy_waits: u32,
     /// When it last looked for silent clients.
     looked: Option<Instant>,
 }
 
-impl<'l, 'a, A: Drop, I> EventLoop<'l, 'a, A, I> {
-    /// An event loop for the connections that come this way, up to a None.
+impl<'l, R, O, P: Protocol, S: Stream> EventLoop<'l, R, O, P, S> {
     pub fn new(
         alloc: Global,
-        inbox: &'l Receiver<Option<Lent<'a, A, I>>, Global>,
+        setting: Setting<'l, R, O, P, S>,
         waits: &'l mut Waits,
-    ) -> EventLoop<'l, 'a, A, I> {
-        EventLoop {
+    ) -> Result<EventLoop<'l, R, O, P, S>, AllocError> {
+        let mut buffer = Vec::new(alloc);
+        buffer.resize(setting.loops.rules.read_size.most_bytes(), 0)?;
+        Ok(EventLoop {
+            setting,
             alloc,
-            inbox,
             waits,
-            is_woken: false,
+            places: Slab::new(alloc),
+            buffer,
             ready: Vec::new(alloc),
-            lent: Slab::new(alloc),
-            buffers: Buffers::new(alloc),
+            again: Vec::new(alloc),
+            timer: Timer::new(alloc),
+            is_woken: true,
+            polls: 0,
+            busy_waits: 0,
             looked: None,
-        }
-    }
-
-    /// Returns a connection, with what its client has not taken, to its own thread.
-    fn give_back<R: Wait>(&self, rt: &R, lent: Lent<'a, A, I>, why: Why, unwritten: Vec<u8>) {
-        let Lent {
-            waiting,
-            stream,
-            home,
-            is_busy: _,
-        } = lent;
-        let descriptor = stream.as_raw_fd();
-        let registry = self.waits.poll.registry();
-        let _ = registry.deregister(&mut SourceFd(&descriptor)).is_ok();
-        drop(stream);
-        let returned = Returned {
-            why,
-            waiting,
-            unwritten,
-        };
-        drop(home.send(rt, returned));
-    }
-
-    /// Returns the connection of this key, all of whose answers are written.
-    fn give_back_at<R: Wait>(&mut self, rt: &R, key: usize, why: Why) {
-        if let Some(lent) = self.lent.try_remove(key) {
-            self.give_back(rt, lent, why, Vec::new(self.alloc));
-        }
-    }
-
-    /// Returns all connections.
-    fn give_back_all<R: Wait>(&mut self, rt: &R, why: Why) {
-        for key in 0..self.lent.capacity() {
-            self.give_back_at(rt, key, why);
-        }
-    }
-
-    /// Has waits tell of the connection of this key.
-    fn register(&self, key: usize) -> bool {
-        let Some(lent) = self.lent.get(key) else {
-            return false;
-        };
-        let descriptor = lent.stream.as_raw_fd();
-        let registry = self.waits.poll.registry();
-        registry
-            .register(&mut SourceFd(&descriptor), Token(key), Interest::READABLE)
-            .is_ok()
-    }
-
-    /// Keeps a connection, or returns it if that cannot be.
-    fn keep<R: Wait>(&mut self, rt: &R, lent: Lent<'a, A, I>) {
-        match self.lent.insert(lent) {
-            Ok(key) => {
-                if !self.register(key) {
-                    self.give_back_at(rt, key, Why::Busy);
-                }
-            }
-            Err(refused) => self.give_back(rt, refused.value, Why::Busy, Vec::new(self.alloc)),
-        }
-    }
-
-    /// Takes in what is lent, if it is this event loop's turn. False once nothing will be any more.
-    fn take_in<R: Wait>(&mut self, rt: &R) -> bool {
-        if !self.is_woken {
-            return true;
-        }
-        for _ in 0..u64::MAX {
-            match self.inbox.try_recv(rt) {
-                Ok(Some(lent)) => self.keep(rt, lent),
-                Ok(None) => return false,
-                Err(_) => break,
-            }
-        }
-        true
-    }
-
-    /// How long a wait takes at most.
-    fn time(&self) -> Duration {
-        Duration::from_millis(if self.lent.is_empty() {
-            IDLE_MILLISECONDS
-        } else {
-            WAIT_MILLISECONDS
         })
     }
 
-    /// Waits until some connections have something to read, and notes which. No wait tells of a
-    /// connection again that is not noted for lack of memory.
+    /// Has waits tell of a descriptor by this key.
+    fn register(&self, key: usize, descriptor: RawFd) -> bool {
+        let both = Interest::READABLE | Interest::WRITABLE;
+        let registry = self.waits.poll.registry();
+        registry
+            .register(&mut SourceFd(&descriptor), Token(key), both)
+            .is_ok()
+    }
+
+    /// Has waits tell no more of a descriptor.
+    fn deregister(&self, descriptor: RawFd) {
+        let registry = self.waits.poll.registry();
+        let _ = registry.deregister(&mut SourceFd(&descriptor)).is_ok();
+    }
+
+    /// Whether connections wait closely for their next tries, so that a sleep of whole milliseconds is
+    /// too long.
+    fn is_close(&self) -> bool {
+        match self.timer.first() {
+            Some((_, key)) => match self.places.get(key) {
+                Some(Place::Served(seat)) => seat.is_tried_closely(),
+                _ => false,
+            },
+            None => false,
+        }
+    }
+}
+
+impl<R: Clock, O, P: Protocol, S: Stream> EventLoop<'_, R, O, P, S> {
+    /// What time it is, if the clock can be read.
+    fn now(&self) -> Option<Instant> {
+        Instant::now(self.setting.rt).ok()
+    }
+
+    /// How long the next wait takes at most: for ever where nothing is to be done.
+    fn time(&self) -> Option<Duration> {
+        if !self.again.is_empty() || self.polls > 0 || self.is_close() {
+            return Some(Duration::ZERO);
+        }
+        let look = Duration::from_millis(LOOK_MILLISECONDS);
+        let longest = if self.setting.loops.rules.idle.is_some() && !self.places.is_empty() {
+            Some(look)
+        } else {
+            None
+        };
+        let Some((first, _)) = self.timer.first() else {
+            return longest;
+        };
+        match self.now() {
+            Some(now) => Some(first.duration_since(now).min(longest.unwrap_or(look))),
+            None => Some(Duration::ZERO),
+        }
+    }
+
+    /// Waits until some connections have something, and notes which. Where there is no memory for
+    /// that, each may.
     fn wait(&mut self) -> Result<(), AllocError> {
         let time = self.time();
         self.ready.clear();
         let Waits { poll, events } = &mut *self.waits;
-        let _ = poll.poll(events, Some(time)).is_ok();
-        self.is_woken = events.is_empty();
+        let _ = poll.poll(events, time).is_ok();
+        let is_found = !events.is_empty();
+        self.busy_waits = if is_found && time == Some(Duration::ZERO) {
+            self.busy_waits.saturating_add(1)
+        } else {
+            0
+        };
+        self.polls = if is_found && self.setting.is_first {
+            POLLS
+        } else {
+            self.polls.saturating_sub(1)
+        };
         for event in events.iter() {
             if event.token() == WAKE {
                 self.is_woken = true;
             } else {
-                let key = event.token().0;
-                let is_last = event.is_read_closed();
-                self.ready.push(Ready { key, is_last })?;
+                self.ready.push(Ready::of(event))?;
             }
         }
         Ok(())
     }
 
-    /// Returns the connections whose clients sent nothing since it last looked.
-    fn give_back_quiet<R: Wait>(&mut self, rt: &R) {
-        for key in 0..self.lent.capacity() {
-            let is_busy = match self.lent.get_mut(key) {
-                Some(lent) => std::mem::replace(&mut lent.is_busy, false),
-                None => true,
-            };
-            if !is_busy {
-                self.give_back_at(rt, key, Why::Quiet);
-            }
+    /// Whether the request of this connection that waits is tried again at some time.
+    fn is_scheduled(&self, key: usize) -> bool {
+        match self.places.get(key) {
+            Some(Place::Served(seat)) => seat.time.is_some(),
+            _ => false,
         }
     }
 
-    /// Looks at the clock behind answers that began then. Returns all connections if these took
-    /// long or the time is not known, and those of silent clients once in a while.
-    fn look_at_clock<R: Wait + Clock>(&mut self, rt: &R, began: Option<Instant>) {
-        let (Some(began), Ok(now)) = (began, Instant::now(rt)) else {
-            self.give_back_all(rt, Why::Busy);
-            return;
+    /// Notes that the connection of this key, which begins, is met in so many milliseconds. Says
+    /// false if that cannot be.
+    fn meet_later(&mut self, key: usize, milliseconds: u64) -> bool {
+        let Some(now) = self.now() else {
+            return false;
         };
-        if now.duration_since(began) > Duration::from_millis(SLOW_MILLISECONDS) {
-            self.give_back_all(rt, Why::Busy);
+        let Some(time) = now.checked_add(Duration::from_millis(milliseconds)) else {
+            return false;
+        };
+        if let Some(Place::Begins(guest)) = self.places.get_mut(key) {
+            guest.time = Some(time);
         }
-        let looked = self.looked.unwrap_or(now);
-        self.looked = Some(looked);
-        if now.duration_since(looked) > Duration::from_millis(QUIET_MILLISECONDS) {
-            self.looked = Some(now);
-            self.give_back_quiet(rt);
+        self.timer.add(time, key)
+    }
+
+    /// Notes when the connection of this key is tried again. Says false if that cannot be.
+    fn schedule(&mut self, key: usize) -> bool {
+        let Some(now) = self.now() else {
+            return false;
+        };
+        let time = match self.places.get_mut(key) {
+            Some(Place::Served(seat)) => seat.schedule(now, &self.setting.loops.rules),
+            _ => None,
+        };
+        match time {
+            Some(time) => self.timer.add(time, key),
+            None => false,
         }
     }
 }
 
-impl<'a, A: Asker + Drop, I: Informs> EventLoop<'_, 'a, A, I> {
-    /// Answers what this client sent. Tells why the connection is to be returned, with the answers
-    /// that the client has not taken.
-    fn answer(&mut self, clients: &Clients, ready: Ready) -> Option<(Why, Vec<u8>)> {
-        let alloc = self.alloc;
-        let lent = self.lent.get_mut(ready.key)?;
-        lent.is_busy = true;
-        let mut reader = clients.counted(&*lent.stream);
-        let mut writer = PromptWriter::new(alloc, clients.counted(&*lent.stream));
-        let why = take_turn(
-            alloc,
-            &mut self.buffers,
-            &mut lent.waiting,
-            &mut reader,
-            &mut writer,
-            ready.is_last,
-        );
-        let unwritten = writer.into_unwritten();
-        match why {
-            Some(why) => Some((why, unwritten)),
-            None => {
-                drop(unwritten);
-                None
+impl<R: Clock, O: Owner<P, S>, P: Protocol + Drop, S: Stream + AsRawFd + Drop> EventLoop<
+    '_,
+    R,
+    O,
+    P,
+    S,
+> {
+    /// Keeps a connection. None if there is no memory or descriptor for it: it is ended then.
+    fn keep(&mut self, descriptor: RawFd, place: Place<P, S>) -> Option<usize> {
+        match self.places.insert(place) {
+            Ok(key) => {
+                if self.register(key, descriptor) {
+                    return Some(key);
+                }
+                self.end_at(key, Ended::Served(Served::Memory));
+            }
+            Err(refused) => self.let_go(refused.value, Ended::Served(Served::Memory)),
+        }
+        None
+    }
+
+    /// Ends a connection: tells how, and closes it.
+    fn let_go(&mut self, place: Place<P, S>, ended: Ended) {
+        match place {
+            Place::Begins(guest) => {
+                self.deregister(guest.as_raw_fd());
+                let (number, stream) = guest.into_parts();
+                self.leave(number, stream, ended, None);
+            }
+            Place::Served(seat) => {
+                self.deregister(seat.as_raw_fd());
+                let (number, stream, protocol) = seat.into_parts();
+                self.leave(number, stream, ended, Some(protocol));
+            }
+            Place::Closing(closing) => {
+                let number = closing.number;
+                self.deregister(closing.as_raw_fd());
+                drop(closing);
+                self.setting.owner.hear_close(number);
+            }
+            Place::Empty => {}
+        }
+    }
+
+    /// Ends the connection of this key.
+    fn end_at(&mut self, key: usize, ended: Ended) {
+        if let Some(place) = self.places.try_remove(key) {
+            self.let_go(place, ended);
+        }
+    }
+
+    /// Tells how a connection ended, and closes it.
+    fn leave(&mut self, number: u64, stream: Arc<TcpStream>, ended: Ended, protocol: Option<P>) {
+        self.setting.owner.hear_end(number, &ended, protocol);
+        if ended.is_closed_slowly() && self.closes_slowly(number, &stream) {
+            drop(stream);
+            return;
+        }
+        drop(stream);
+        self.setting.owner.hear_close(number);
+    }
+
+    /// Ends the server's side of a connection, and says whether it is kept until its client has
+    /// ended the other.
+    fn closes_slowly(&mut self, number: u64, stream: &Arc<TcpStream>) -> bool {
+        let Some(now) = self.now() else {
+            return false;
+        };
+        let Some(closing) = Closing::begin(number, stream, now) else {
+            return false;
+        };
+        let until = closing.until;
+        let descriptor = closing.as_raw_fd();
+        match self.places.insert(Place::Closing(closing)) {
+            Ok(key) => {
+                if self.register(key, descriptor) && self.timer.add(until, key) {
+                    return true;
+                }
+                self.deregister(descriptor);
+                drop(self.places.try_remove(key));
+                false
+            }
+            Err(refused) => {
+                drop(refused.value);
+                false
             }
         }
     }
 
-    /// Answers a client, and returns its connection if that is to be.
-    fn serve<R: Wait>(&mut self, rt: &R, clients: &Clients, ready: Ready) {
-        let Some((why, rest)) = self.answer(clients, ready) else {
-            return;
+    /// Drops what came of a connection that is being closed.
+    fn drop_input(&mut self, key: usize) {
+        let is_over = match self.places.get_mut(key) {
+            Some(Place::Closing(closing)) => !closing.drop_input(&mut self.buffer),
+            _ => false,
         };
-        match self.lent.try_remove(ready.key) {
-            Some(lent) => self.give_back(rt, lent, why, rest),
-            None => drop(rest),
+        if is_over {
+            self.end_at(key, Ended::Served(Served::Ended));
         }
     }
 
-    /// Answers the clients that sent something.
-    fn serve_ready<R: Wait>(&mut self, rt: &R, clients: &Clients) {
+    /// Has the connection of this key driven again behind the others.
+    fn go_on_later(&mut self, key: usize) {
+        if self.again.push(key).is_err() {
+            self.end_at(key, Ended::Served(Served::Memory));
+        }
+    }
+
+    /// Has this link serve the connection of this key.
+    fn begin(&mut self, key: usize, link: Link<P, S>) {
+        let turns = self.setting.loops.rules.turns;
+        let Some(place) = self.places.get_mut(key) else {
+            drop(link);
+            return;
+        };
+        let begun = match mem::replace(place, Place::Empty) {
+            Place::Begins(guest) => {
+                let (number, stream) = guest.into_parts();
+                Place::Served(Seat::new(number, stream, link, turns))
+            }
+            other => {
+                drop(link);
+                other
+            }
+        };
+        drop(mem::replace(place, begun));
+    }
+
+    /// Learns what the connection of this key becomes.
+    fn meet(&mut self, key: usize) {
+        let met = match self.places.get(key) {
+            Some(Place::Begins(guest)) => self.setting.owner.meet(guest),
+            _ => return,
+        };
+        match met {
+            Met::Reads => {}
+            Met::Waits => {
+                if !self.meet_later(key, MEETING_MILLISECONDS) {
+                    self.end_at(key, Ended::Served(Served::Memory));
+                }
+            }
+            Met::Begins(link) => {
+                self.begin(key, link);
+                self.go_on_later(key);
+            }
+            Met::Ended(ended) => self.end_at(key, ended),
+        }
+    }
+
+    /// Reads what came of a connection that begins, and learns what it becomes.
+    fn hear(&mut self, key: usize) {
+        for _ in 0..MOST_READS {
+            let heard = match self.places.get_mut(key) {
+                Some(Place::Begins(guest)) => guest.read(&mut self.buffer),
+                _ => return,
+            };
+            match heard {
+                Ok(true) => self.meet(key),
+                Ok(false) => return,
+                Err(served) => {
+                    self.end_at(key, Ended::Served(served));
+                    return;
+                }
+            }
+        }
+        self.go_on_later(key);
+    }
+
+    /// Has the connection of this key do what there is to do. One that cannot be tried again later
+    /// is told at once that its request has no answer.
+    fn drive(&mut self, key: usize) {
+        let driven = match self.places.get_mut(key) {
+            Some(Place::Served(seat)) => seat.drive(&mut self.buffer),
+            Some(Place::Begins(_)) => return self.hear(key),
+            Some(Place::Closing(_)) => return self.drop_input(key),
+            Some(Place::Empty) | None => return,
+        };
+        match driven {
+            Driven::Rests => {}
+            Driven::Again => self.go_on_later(key),
+            Driven::Waits => {
+                if !self.is_scheduled(key) && !self.schedule(key) {
+                    self.stop_waiting(key);
+                    self.go_on_later(key);
+                }
+            }
+            Driven::Ended(ended) => self.end_at(key, ended),
+        }
+    }
+
+    /// Tries the request of this connection that waits for the last time.
+    fn stop_waiting(&mut self, key: usize) {
+        if let Some(Place::Served(seat)) = self.places.get_mut(key) {
+            seat.stop_waiting();
+        }
+    }
+
+    /// Drives the connections of which the wait told.
+    fn drive_ready(&mut self) {
         for at in 0..self.ready.len() {
             if let Some(ready) = self.ready.get(at) {
                 let ready = *ready;
-                self.serve(rt, clients, ready);
+                match self.places.get_mut(ready.key) {
+                    Some(Place::Served(seat)) => seat.note(ready),
+                    Some(Place::Begins(guest)) => guest.note(),
+                    _ => {}
+                }
+                self.drive(ready.key);
             }
         }
     }
 
-    /// Answers lent connections until none will come any more, and then returns those that are left.
-    /// Once all connections are told to end, it returns them too.
-    pub fn run<R: Wait + Clock>(mut self, rt: &R, clients: &Clients) {
-        for _ in 0..u64::MAX {
-            let waited = self.wait();
-            self.is_woken |= waited.is_err();
-            if !self.take_in(rt) {
-                break;
+    /// Drives all connections, of which each may have something.
+    fn drive_all(&mut self) {
+        for key in 0..self.places.capacity() {
+            match self.places.get_mut(key) {
+                Some(Place::Served(seat)) => seat.note(Ready::all(key)),
+                Some(Place::Begins(guest)) => guest.note(),
+                _ => {}
             }
-            let began = Instant::now(rt).ok();
-            self.serve_ready(rt, clients);
-            self.look_at_clock(rt, began);
-            if waited.is_err() || clients.are_told_to_end() {
-                self.give_back_all(rt, Why::Busy);
+            self.drive(key);
+        }
+    }
+
+    /// Drives those that go on, each once.
+    fn drive_again(&mut self) {
+        if self.again.is_empty() {
+            return;
+        }
+        let none = Vec::new(self.alloc);
+        for key in mem::replace(&mut self.again, none) {
+            self.drive(key);
+        }
+    }
+
+    /// Does what is to be done at this time with the connection of this key.
+    fn drive_late(&mut self, now: Instant, time: Instant, key: usize) {
+        match self.places.get_mut(key) {
+            Some(Place::Served(seat)) if seat.time == Some(time) => {
+                seat.try_again(now, self.setting.loops.rules.patience);
+                self.drive(key);
+            }
+            Some(Place::Begins(guest)) if guest.time == Some(time) => {
+                guest.time = None;
+                guest.is_late = true;
+                self.meet(key);
+            }
+            Some(Place::Closing(closing)) if closing.until == time => {
+                self.end_at(key, Ended::Served(Served::Ended));
+            }
+            _ => {}
+        }
+    }
+
+    /// Drives the connections whose time has come.
+    fn drive_due(&mut self) {
+        if self.timer.first().is_none() {
+            return;
+        }
+        let Some(now) = self.now() else {
+            return;
+        };
+        for _ in 0..u64::MAX {
+            match self.timer.next_due(now) {
+                Some((time, key)) => self.drive_late(now, time, key),
+                None => return,
             }
         }
-        self.give_back_all(rt, Why::Busy);
+    }
+
+    /// Ends the connections of clients that were silent in more looks than these.
+    fn end_silent(&mut self, most: u64) {
+        for key in 0..self.places.capacity() {
+            let is_silent = match self.places.get_mut(key) {
+                Some(Place::Served(seat)) => seat.is_silent(most),
+                Some(Place::Begins(guest)) => guest.is_silent(most),
+                _ => false,
+            };
+            if is_silent {
+                self.end_at(key, Ended::Idle);
+            }
+        }
+    }
+
+    /// Looks for silent clients, once in a while.
+    fn look(&mut self) {
+        let Some(most) = self.setting.loops.rules.most_looks() else {
+            return;
+        };
+        let Some(now) = self.now() else {
+            return;
+        };
+        let looked = self.looked.unwrap_or(now);
+        self.looked = Some(looked);
+        if now.duration_since(looked) >= Duration::from_millis(LOOK_MILLISECONDS) {
+            self.looked = Some(now);
+            self.end_silent(most);
+        }
+    }
+
+    /// Ends the input of all connections.
+    fn end_inputs(&mut self) {
+        for key in 0..self.places.capacity() {
+            match self.places.get_mut(key) {
+                Some(Place::Served(seat)) => {
+                    seat.note_end();
+                    self.drive(key);
+                }
+                Some(Place::Begins(guest)) => {
+                    guest.note_end();
+                    self.meet(key);
+                }
+                _ => {}
+            }
+        }
+    }
+
+    /// Takes in a connection.
+    fn take_in(&mut self, coming: Coming<P, S>) {
+        match coming {
+            Coming::New(guest) => {
+                if let Some(key) = self.keep(guest.as_raw_fd(), Place::Begins(guest)) {
+                    let _ = self.meet_later(key, LATE_MILLISECONDS);
+                    self.meet(key);
+                }
+            }
+            Coming::Given(seat) => {
+                let mut seat = seat;
+                seat.time = None;
+                if let Some(key) = self.keep(seat.as_raw_fd(), Place::Served(seat)) {
+                    self.drive(key);
+                }
+            }
+        }
+    }
+}
+
+impl<R: Wait + Clock, O: Owner<P, S>, P: Protocol + Drop, S: Stream + AsRawFd + Drop> EventLoop<
+    '_,
+    R,
+    O,
+    P,
+    S,
+> {
+    /// Takes in what came from other threads.
+    fn take_in_all(&mut self) {
+        for _ in 0..u64::MAX {
+            match self.setting.arrivals.try_recv(self.setting.rt) {
+                Ok(coming) => self.take_in(coming),
+                Err(_) => return,
+            }
+        }
+    }
+
+    /// Gives one of the connections that have something to another loop, where this one has not slept
+    /// for a while.
+    fn give_away(&mut self) {
+        if !self.setting.is_first || self.busy_waits < BUSY_WAITS {
+            return;
+        }
+        self.busy_waits = 0;
+        let Some(ready) = self.ready.first() else {
+            return;
+        };
+        let key = ready.key;
+        let Some(Place::Served(_)) = self.places.get(key) else {
+            return;
+        };
+        match self.places.try_remove(key) {
+            Some(Place::Served(seat)) => {
+                self.deregister(seat.as_raw_fd());
+                if let Some(seat) = self.setting.loops.give(self.setting.rt, seat) {
+                    self.take_in(Coming::Given(seat));
+                }
+            }
+            other => drop(other),
+        }
+    }
+
+    /// Serves connections until none will come any more.
+    pub fn run(mut self) {
+        for _ in 0..u64::MAX {
+            if self.wait().is_err() {
+                self.drive_all();
+            }
+            if mem::replace(&mut self.is_woken, false) {
+                self.take_in_all();
+                if self.setting.owner.wants_end() {
+                    self.end_inputs();
+                }
+            }
+            if self.places.is_empty() && self.setting.loops.is_over() {
+                return;
+            }
+            self.give_away();
+            self.drive_ready();
+            self.drive_again();
+            self.drive_due();
+            self.look();
+        }
     }
 }

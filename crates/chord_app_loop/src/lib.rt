@@ -1,29 +1,24 @@
-//! Threads that answer many busy connections each.
+//! Threads that serve many connections each.
 //!
-//! Each connection has a thread of its own, which sleeps until its client sends something. Where
-//! there are more connections than processors, waking these threads takes longer than answering
-//! small commands. So a thread lends its connection to an event loop ([`Lending`],
-//! [`serve_lending`]) once its client sends one small command after another. An event loop waits
-//! for all connections that are lent to it at once, and answers those whose clients sent something
-//! ([`EventLoop`](event_loop)). It returns a connection whose client falls silent, sends much,
-//! takes its answers slowly or ends ([`Returned`]).
+//! An event loop waits for the streams of all its connections at once, reads what came, has each
+//! [`Link`](chord_serve::Link) answer, and writes. A connection whose next request waits is tried
+//! again later, and no other one waits for it. An [`Owner`] says which link serves a connection that
+//! begins ([`Guest`]). All connections begin on the first loop ([`Loops`]); where that does not sleep
+//! any more it gives some of them to the others.
 #![tactic(auto)]
 
-mod crowd;
+mod closing;
 mod event_loop;
-mod habit;
-mod lendable_reader;
-mod lending;
-mod lent;
+mod guest;
 mod loops;
-mod prompt_writer;
-mod serving;
-mod turn;
+mod owner;
+mod rules;
+mod seat;
+mod socket;
+mod timer;
 
-pub use crowd::Crowd;
-pub use habit::LendHabit;
-pub use lendable_reader::LendableReader;
-pub use lending::Lending;
-pub use lent::{Returned, Why};
+pub use guest::Guest;
 pub use loops::Loops;
-pub use serving::{Visit, serve_lending};
+pub use owner::{Met, Owner};
+pub use rules::Rules;
+pub use socket::Socket;

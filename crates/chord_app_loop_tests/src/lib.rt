@@ -1,17 +1,13 @@
-//! The tests of connections that are lent to event loops (`chord_app_loop`).
+//! The tests of event loops (`chord_app_loop`).
 #![tactic(auto)]
 
 #[cfg(test)]
+mod askers;
+#[cfg(test)]
 mod checks;
-#[cfg(test)]
-mod habits;
-#[cfg(test)]
-mod lent;
-#[cfg(test)]
-mod loops;
 #[cfg(test)]
 mod parties;
 #[cfg(test)]
-mod readers;
+mod serving;
 #[cfg(test)]
-mod served;
+mod waiting;

@@ -1,18 +1,20 @@
-//! Who takes part in a test: a client, its connection, and an event loop.
+//! Who takes part in a test: clients, their connections, and event loops.
 
-use chord_app_loop::{Crowd, Lending, Loops, Returned, Visit, Why, serve_lending};
-use chord_app_sockets::{Clients, PatientReader, PatientWriter, Pollers, PollingReader, prepare};
-use chord_resp_serve::{Informs, ServerInfo, WaitingConnection};
-use chord_serve::{ReadSize, Served};
-use chord_serve_testkit::{Limited, Limits, MapAsker};
+use crate::askers::LateAsker;
+use chord_app_loop::{Guest, Loops, Met, Owner, Rules, Socket};
+use chord_app_sockets::{Clients, Ended};
+use chord_resp_serve::{CommandProtocol, Informs, ServerInfo};
+use chord_serve::{Link, ReadSize, Served};
 use std::alloc::{AllocError, Global};
 use std::net::{Net, TcpListener, TcpStream};
-use std::sync::{Arc, Wait};
+use std::os::fd::AsRawFd;
+use std::sync::{Arc, Mutex, Wait};
 use std::thread::Threads;
-use std::time::Clock;
+use std::time::{Clock, Duration};
 use std::{io, thread};
 
 /// A server that tells nothing of itself.
+#[derive(Drop)]
 pub struct Silent;
 
 impl Informs for Silent {
@@ -23,201 +25,139 @@ impl Informs for Silent {
     }
 }
 
-/// Both ends of a connection.
+/// What the clients of a test speak with.
+pub type Commands<'t> = CommandProtocol<'t, LateAsker, Silent>;
+
+/// What the connections of a test share.
 #[derive(Drop)]
-pub struct Ends {
-    pub client: TcpStream,
-    pub server: Arc<TcpStream>,
+pub struct House<'t, R> {
+    pub rt: &'t R,
+    pub alloc: Global,
+    pub clients: &'t Clients,
+    source: &'t Silent,
+    /// How often requests of keys that begin with `late` are tried in vain.
+    pub misses: u32,
+    /// How connections ended.
+    ends: Mutex<Vec<(u64, Ended)>>,
 }
 
-/// A connection over loopback. A read of its server waits for a tenth of a second at most, as a
-/// client may be idle for ten seconds.
-pub fn connect<R: Net<Listener = TcpListener, Stream = TcpStream>>(
-    rt: &R,
-    alloc: Global,
-) -> io::Result<Ends> {
-    let listener = TcpListener::bind(rt, "127.0.0.1:0")?;
-    let client = TcpStream::connect(rt, listener.local_addr()?)?;
-    let (stream, _) = listener.accept()?;
-    drop(listener);
-    prepare(&stream, Some(10));
-    client.set_nodelay(true)?;
-    let server = Arc::new(alloc, stream)?;
-    Ok(Ends { client, server })
-}
+impl<'t, R: Wait> House<'t, R> {
+    pub fn new(
+        rt: &'t R,
+        alloc: Global,
+        clients: &'t Clients,
+        source: &'t Silent,
+        misses: u32,
+    ) -> House<'t, R> {
+        House {
+            rt,
+            alloc,
+            clients,
+            source,
+            misses,
+            ends: Mutex::new(Vec::new(alloc)),
+        }
+    }
 
-/// A connection that begins.
-fn fresh(
-    alloc: Global,
-    source: &Silent,
-    asker: MapAsker,
-) -> WaitingConnection<'_, MapAsker, Silent> {
-    let server = ServerInfo { number: 7, source };
-    WaitingConnection::new(alloc, server, asker)
-}
-
-/// How a connection came back: why, and what was not written.
-#[derive(Drop)]
-pub struct Loan {
-    pub why: Why,
-    pub unwritten: Vec<u8>,
-}
-
-impl Loan {
-    fn of(returned: Returned<'_, MapAsker, Silent>) -> Loan {
-        let Returned {
-            why,
-            waiting,
-            unwritten,
-        } = returned;
-        drop(waiting);
-        Loan { why, unwritten }
+    /// How the connection of this number ended, if it did.
+    pub fn end_of(&self, number: u64) -> Option<Ended> {
+        let ends = self.ends.lock(self.rt);
+        ends.iter().find(|end| end.0 == number).map(|end| end.1)
     }
 }
 
-/// Lends a connection whose client sent this before, and gives how it came back. With `clients`
-/// that are told to end, so is this connection.
-pub fn lend<R: Threads + Wait + Clock + Net + Sync>(
-    rt: &R,
-    alloc: Global,
-    clients: &Clients,
-    asker: MapAsker,
-    server: &Arc<TcpStream>,
-) -> Option<Loan> {
-    let crowd = Crowd::new(0);
-    let loops = Loops::open(rt, alloc, 1).ok()?;
-    let lending = Lending::new(alloc, &loops, &crowd, &Silent).ok()?;
-    let (_, loan) = thread::join(
-        rt,
-        || lending.run(rt, alloc, clients, 7),
-        || {
-            let waiting = fresh(alloc, lending.source(), asker);
-            let returned = lending.lend(rt, alloc, 7, waiting, server);
-            lending.end(rt);
-            returned.map(Loan::of)
-        },
-    );
-    drop(lending);
-    drop(loops);
-    loan
+impl<'t, R: Wait> Owner<Commands<'t>, Socket<'t>> for House<'t, R> {
+    fn meet(&self, guest: &Guest<Socket<'t>>) -> Met<Commands<'t>, Socket<'t>> {
+        let Ok(stream) = Arc::try_clone(&guest.stream) else {
+            return Met::Ended(Ended::Served(Served::Memory));
+        };
+        let server = ServerInfo {
+            number: guest.number,
+            source: self.source,
+        };
+        let asker = LateAsker::new(self.alloc, self.misses);
+        let protocol = CommandProtocol::new(self.alloc, server, asker);
+        Met::Begins(Link::new(self.alloc, protocol, Socket::new(stream, self.clients)))
+    }
+
+    fn hear_end(&self, number: u64, ended: &Ended, protocol: Option<Commands<'t>>) {
+        drop(protocol);
+        drop(self.ends.lock(self.rt).push((number, *ended)));
+    }
+
+    fn hear_close(&self, number: u64) {
+        self.clients.forget(self.rt, number);
+    }
+
+    fn wants_end(&self) -> bool {
+        self.clients.are_told_to_end()
+    }
 }
 
-/// How a connection was served: how it ended, and how many requests were asked.
-pub type Visited = (Served, Option<usize>);
-
-/// Serves a connection to its end, and lends it while its client is busy.
-fn serve<R: Wait>(
-    rt: &R,
-    alloc: Global,
-    clients: &Clients,
-    lending: &Lending<'_, MapAsker, Silent>,
-    asker: MapAsker,
-    server: &Arc<TcpStream>,
-) -> Visited {
-    let pollers = Pollers::new(1);
-    let polling = PollingReader::new(&**server, &pollers);
-    let mut reader = PatientReader::new(polling, clients, Some(10));
-    let mut writer = PatientWriter::new(&**server);
-    let visit = Visit {
-        number: 7,
-        stream: server,
-        size: ReadSize::Large,
+/// The rules of a server that stays: requests wait for `patience` milliseconds.
+pub fn rules(patience: u64) -> Rules {
+    Rules {
+        read_size: ReadSize::Large,
         turns: u64::MAX,
-    };
-    let waiting = fresh(alloc, lending.source(), asker);
-    let (served, asker) = serve_lending(
-        rt,
-        alloc,
-        &lending,
-        waiting,
-        visit,
-        &mut reader,
-        &mut writer,
-    );
-    lending.end(rt);
-    let asked = asker.as_ref().map(|asker| asker.requests.len());
-    drop(asker);
-    drop(reader);
-    drop(pollers);
-    (served, asked)
+        idle: Some(60),
+        longest_pause: Duration::from_millis(20),
+        patience: Duration::from_millis(patience),
+    }
 }
 
-/// Serves a client that acts so beside it.
-pub fn serve_beside<
+/// Has a client connect, and gives its connection this number.
+pub fn connect<'t, R: Wait + Net<Listener = TcpListener, Stream = TcpStream>>(
+    house: &House<'t, R>,
+    loops: &Loops<Commands<'t>, Socket<'t>>,
+    number: u64,
+) -> io::Result<TcpStream> {
+    let listener = TcpListener::bind(house.rt, "127.0.0.1:0")?;
+    let client = TcpStream::connect(house.rt, listener.local_addr()?)?;
+    let (stream, _) = listener.accept()?;
+    drop(listener);
+    client.set_nodelay(true)?;
+    client.set_read_timeout(Some(Duration::from_secs(20)))?;
+    stream.set_nodelay(true)?;
+    stream.set_nonblocking(true)?;
+    let stream = Arc::new(house.alloc, stream)?;
+    house.clients.add(house.rt, number, &stream)?;
+    let socket = Socket::new(Arc::try_clone(&stream)?, house.clients);
+    loops.add(house.rt, Guest::new(house.alloc, number, stream, socket));
+    Ok(client)
+}
+
+/// Runs two event loops while this is done, and until all connections are closed.
+pub fn beside<'t, R, T, F>(
+    rt: &R,
+    house: &House<'t, R>,
+    loops: &Loops<Commands<'t>, Socket<'t>>,
+    act: F,
+) -> T
+where
     R: Threads + Wait + Clock + Net + Sync,
     T: Drop + Send,
     F: FnOnce() -> T + Send,
->(rt: &R, alloc: Global, asker: MapAsker, server: &Arc<TcpStream>, act: F) -> Option<(Visited, T)>
     requires { (f : _) → F.pre f }
 {
-    let crowd = Crowd::new(0);
-    let clients = Clients::new(alloc);
-    let loops = Loops::open(rt, alloc, 1).ok()?;
-    let lending = Lending::new(alloc, &loops, &crowd, &Silent).ok()?;
-    let (_, done) = thread::join(
+    let (_, (_, done)) = thread::join(
         rt,
-        || lending.run(rt, alloc, &clients, 7),
+        || loops.run(rt, house.alloc, house, 0),
         ||
             requires { (f : _) → F.pre f }
         {
             thread::join(
                 rt,
-                || serve(rt, alloc, &clients, &lending, asker, server),
-                act,
+                || loops.run(rt, house.alloc, house, 1),
+                ||
+                    requires { (f : _) → F.pre f }
+                {
+                    let done = act();
+                    house.clients.wait_for_all(rt);
+                    loops.end();
+                    done
+                },
             )
         },
     );
-    drop(lending);
-    drop(loops);
-    drop(clients);
-    Some(done)
-}
-
-/// How a client is served that sends PING this many times, six bytes at a time, where there is no
-/// event loop, and how many bytes it is answered.
-pub fn serve_alone<R: Wait + Net<Listener = TcpListener, Stream = TcpStream>>(
-    rt: &R,
-    alloc: Global,
-    pings: u64,
-) -> Option<(Visited, usize)> {
-    let Ends { client, server } = connect(rt, alloc).ok()?;
-    let mut bytes = Vec::new(alloc);
-    for _ in 0..pings {
-        bytes.extend_from_slice(b"PING\r\n").ok()?;
-    }
-    let limits = Limits {
-        step: 6,
-        calls: u64::MAX,
-    };
-    let mut reader = Limited::new(bytes.as_slice(), limits);
-    let mut answers = Vec::new(alloc);
-    let crowd = Crowd::new(0);
-    let loops = Loops::open(rt, alloc, 0).ok()?;
-    let lending = Lending::new(alloc, &loops, &crowd, &Silent).ok()?;
-    let visit = Visit {
-        number: 7,
-        stream: &server,
-        size: ReadSize::Large,
-        turns: u64::MAX,
-    };
-    let waiting = fresh(alloc, lending.source(), MapAsker::new(alloc));
-    let (served, asker) = serve_lending(
-        rt,
-        alloc,
-        &lending,
-        waiting,
-        visit,
-        &mut reader,
-        &mut answers,
-    );
-    let asked = asker.as_ref().map(|asker| asker.requests.len());
-    drop(asker);
-    drop(lending);
-    drop(loops);
-    let written = answers.len();
-    drop(answers);
-    drop(bytes);
-    drop(server);
-    drop(client);
-    Some(((served, asked), written))
+    done
 }

@@ -59,21 +59,19 @@ const OPERATOR: NumberOption = NumberOption {
     ..PORT
 };
 
-/// How many nodes and how many callers a server that stays may have at most.
-const MOST_OF_EACH: u64 = 4_096;
-
 const SLOTS: NumberOption = NumberOption {
     name: "slots",
     value_name: "N",
     least: 1,
-    most: MOST_OF_EACH,
+    most: 4_096,
     default: None,
     help: "With --stay: how many nodes there may ever be, 1 to 4096, else the plan's",
 };
 
 const CALLERS: NumberOption = NumberOption {
     name: "callers",
-    help: "With --stay: how many callers there may be, 1 to 4096, else the plan's",
+    most: 16_384,
+    help: "With --stay: how many callers there may be, 1 to 16384, else the plan's",
     ..SLOTS
 };
 

@@ -5,6 +5,5 @@ mod closing;
 mod doors;
 mod ends;
 mod patience;
-mod polling;
 mod seldom;
 mod stopping;

@@ -107,7 +107,7 @@ kind_behind before (suc place) answer requests fit = subst (λ o. IsReplyTo answ
 -- ---- a request that is sent again
 
 -- the caller submits nothing
-submits_none : (number : ℕ) (ended : Result Reply RetryFault) (old new : CallerSight) → RetryIs AwaitIs number old ended new → new.caller.submitted ≡ old.caller.submitted
+pub submits_none : (number : ℕ) (ended : Result Reply RetryFault) (old new : CallerSight) → RetryIs AwaitIs number old ended new → new.caller.submitted ≡ old.caller.submitted
 submits_none number (Ok reply) old new (pending, ends) = let (request, fresh, is) = ends.change in ap (λ (c : Caller). c.submitted) is
 submits_none number (Err (retry.Wait fault)) old new (pending, ends) = ap (λ (c : Caller). c.submitted) ends.change
 submits_none number (Err retry.NoSuchNode) old new (pending, same) = ap (λ (s : CallerSight). s.caller.submitted) same

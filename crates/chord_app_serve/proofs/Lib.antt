@@ -5,3 +5,4 @@ pub mod Losses
 pub mod Settling
 pub mod Showing
 pub mod Together
+pub mod Trying

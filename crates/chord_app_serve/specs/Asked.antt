@@ -18,7 +18,3 @@ pub record AskerSight : Type 0 where
   pub before : ℕ
   pub via : ℕ
   pub caller : CallerSight
-
--- the asker of a session that begins, at this node
-abbrev pub first_asker : CallerSight → ℕ → AskerSight
-first_asker sight via = record { before = length sight.caller.submitted; via = via; caller = sight }

@@ -2,10 +2,11 @@ pub mod Answered
 pub mod Asked
 pub mod Counts
 pub mod Gaps
-pub mod InSession
 pub mod Keeping
 pub mod Pace
+pub mod ReadPairs
 pub mod Shown
 pub mod Times
 pub mod Together
-pub mod ReadPairs
+pub mod Tried
+pub mod Whole

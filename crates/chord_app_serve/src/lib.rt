@@ -1,7 +1,8 @@
 //! Running rings of a plan's nodes: the command `run`, which does what the plan asks, and the
 //! command `serve`, whose clients ask over loopback.
 //!
-//! [`run`] and [`serve`] end by themselves; [`stay`] serves until its input ends. Each takes a
+//! [`run`] and [`serve`] end by themselves; [`stay`] serves until its input ends. A ring that served
+//! ends by a look at all its nodes and callers ([`WholeRing`]). Each command takes a
 //! store for each node of the plan, and `stay` spare ones for nodes that join while it serves.
 #![tactic(auto)]
 
@@ -15,5 +16,8 @@ pub use gap::{Gap, free_id};
 pub use pace::Pace;
 pub use plan_run::{AskResult, run};
 pub use serving::commands::{ServerStores, serve, stay};
-pub use serving::process::{process_sight, processor_ms_of, resident_of};
+pub use serving::process::{
+    open_files, open_files_of, process_sight, processor_ms_of, resident_of,
+};
 pub use serving::request_times::place_of;
+pub use serving::whole_ring::WholeRing;

@@ -1,5 +1,6 @@
 //! Tests, by what they look at.
 
+mod calls;
 mod joins;
 mod operators;
 mod stops;

@@ -2,7 +2,7 @@
 
 use crate::plans::{stores, two_stores};
 use chord_app_plan::Plan;
-use chord_app_serve::{ServerStores, serve, stay};
+use chord_app_serve::{ServerStores, WholeRing, serve, stay};
 use chord_app_sockets::{ClientSeconds, Doors, Host, OperatorPort, ServerSetup};
 use chord_app_text::Finish;
 use chord_serve_testkit::{Addresses, bound};
@@ -117,7 +117,9 @@ impl Listeners {
     }
 }
 
-/// Serves until its end, and gives what was written.
+/// Serves until its end, and gives what was written. It counts as a bad plan where the ring had not
+/// a caller for each of its connections, as long as it may have any, or more than that for a server
+/// that stays.
 fn serve_on<'a, R: Host, L: Log + Sync>(
     rt: &R,
     alloc: Global,
@@ -141,15 +143,20 @@ fn serve_on<'a, R: Host, L: Log + Sync>(
         operator,
         notes,
     };
-    match ending {
+    let has_its_callers = match ending {
         Ending::Connections(connections) => {
-            serve(rt, &setup, nodes, connections, &mut written)?;
+            let callers = connections.min(settings.callers);
+            serve(rt, &setup, nodes, connections, &mut written)? == (WholeRing { callers })
         }
         Ending::Input(input, seconds) => {
             let spares = stores(alloc, size.joining, size.room)?;
             let all = ServerStores { nodes, spares };
-            stay(rt, &setup, all, seconds, input, &mut written)?;
+            stay(rt, &setup, all, seconds, input, &mut written)?.callers <= settings.callers
         }
+    };
+    if !has_its_callers {
+        drop(written);
+        return Err(Finish::BadPlan);
     }
     Ok(written)
 }

@@ -2,4 +2,3 @@ pub mod Ended
 pub mod Patience
 pub mod Until
 pub mod Doors
-pub mod Polling

@@ -97,6 +97,11 @@ impl Clients {
         self.bytes_written.load(Ordering::Relaxed)
     }
 
+    /// Tells all connections to end.
+    pub fn tell_to_end(&self) {
+        self.told_to_end.store(true, Ordering::SeqCst);
+    }
+
     /// Whether all connections are to end.
     pub fn are_told_to_end(&self) -> bool {
         self.told_to_end.load(Ordering::SeqCst)
@@ -105,7 +110,7 @@ impl Clients {
     /// Tells all connections to end, waits until each was removed, for a second at most, and shuts
     /// down those that are left, so that nothing more is read or written.
     pub fn end_all<R: Wait + Clock>(&self, rt: &R) {
-        self.told_to_end.store(true, Ordering::SeqCst);
+        self.tell_to_end();
         let open = self.open.lock(rt);
         let time = Duration::from_secs(END_SECONDS);
         let (open, _) = self

@@ -1,7 +1,6 @@
 //! The stream of a client, whose bytes are counted.
 
 use crate::clients::Clients;
-use crate::polling::Pollable;
 use std::io::{self, Read, Write};
 use std::net::TcpStream;
 
@@ -42,11 +41,5 @@ impl Write for CountedStream<'_, '_> {
     fn flush(&mut self) -> io::Result<()> {
         let mut stream = self.stream;
         stream.flush()
-    }
-}
-
-impl Pollable for CountedStream<'_, '_> {
-    fn set_nonblocking(&self, nonblocking: bool) -> io::Result<()> {
-        self.stream.set_nonblocking(nonblocking)
     }
 }

@@ -1,7 +1,6 @@
 //! What a server needs besides its ring: where it listens ([`ServerSetup`], [`Doors`],
 //! [`OperatorPort`]), the open connections ([`Clients`]), how long it waits for each
-//! ([`PatientReader`], [`PatientWriter`]), when a read polls and beside how many others
-//! ([`PollingReader`], [`Pollers`]), how each ends ([`Ended`]) and is closed ([`close_slowly`]),
+//! ([`PatientReader`], [`PatientWriter`]), how each ends ([`Ended`]) and is closed ([`close_slowly`]),
 //! the lines that it writes ([`Lines`]), what it does at most once a second ([`OncePerSecond`]), when
 //! it ends ([`Until`], [`Stop`]), and what its handle may do ([`Host`]).
 #![tactic(auto)]
@@ -15,9 +14,6 @@ mod host;
 mod lines;
 mod once_per_second;
 mod patience;
-mod poll_habit;
-mod pollers;
-mod polling;
 mod process_files;
 mod setup;
 mod stop;
@@ -32,8 +28,6 @@ pub use host::Host;
 pub use lines::Lines;
 pub use once_per_second::OncePerSecond;
 pub use patience::{PatientReader, PatientWriter, prepare};
-pub use pollers::Pollers;
-pub use polling::{Pollable, PollingReader};
 pub use process_files::ProcessFiles;
 pub use setup::{OperatorPort, ServerSetup, listen};
 pub use stop::Stop;

@@ -6,7 +6,7 @@ use Rattle.chord_live_types.specs.declared.settings.Settings.{Settings}
 pub record AreWithin (s : Settings) : Type 0 where
   pub some_slots : 1 ≤ s.slots
   pub slots : s.slots ≤ 4096
-  pub callers : s.callers ≤ 4096
+  pub callers : s.callers ≤ 16384
   pub some_successors : 2 ≤ s.successors
   pub successors : s.successors ≤ 16
   pub some_tries : 1 ≤ s.tries

@@ -7,7 +7,7 @@ ghost use Rattle.chord_live_types.specs.Limits.{AreWithin};
 pub struct Settings {
     /// How many nodes there may ever be, 1 to 4,096: a number is used once.
     pub slots: usize,
-    /// How many callers there may be, at most 4,096.
+    /// How many callers there may be, at most 16,384.
     pub callers: usize,
     /// How many successors a node's list may have, 2 to 16.
     pub successors: usize,
@@ -24,7 +24,7 @@ impl Settings {
     {
         1 <= self.slots
             && self.slots <= 4_096
-            && self.callers <= 4_096
+            && self.callers <= 16_384
             && 2 <= self.successors
             && self.successors <= 16
             && 1 <= self.tries

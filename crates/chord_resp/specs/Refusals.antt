@@ -7,6 +7,8 @@ use Rattle.chord_resp.specs.declared.reading.protocol_error.ProtocolError.TheVar
 use Rattle.chord_resp.specs.declared.table.refusal.Refusal.{Refusal}
 use Rattle.chord_resp.specs.declared.table.refusal.Refusal.TheVariants as refusal
 use Rattle.chord_resp.specs.declared.table.refusal.Progress.{Progress}
+use Rattle.chord_resp.specs.declared.table.verb.Verb.{Verb}
+use Rattle.chord_resp.specs.declared.table.verb.Verb.TheVariants as verb
 use Rattle.chord_resp.specs.Table.{verb_text}
 
 -- a byte of a client, as it may be shown: `?` if it cannot be printed
@@ -34,20 +36,32 @@ progress_text p = if nat_le p.of 1 then [] else codes ", " ++ (decimal p.done ++
 unfoldable pub fixed_text : Refusal → List ℕ
 fixed_text (refusal.Protocol error) = codes "ERR Protocol error: "
 fixed_text (refusal.UnknownCommand name) = codes "ERR unknown command '"
+fixed_text (refusal.UnknownSubcommand verb name) = codes "ERR unknown subcommand '"
 fixed_text (refusal.WrongNumber verb) = codes "ERR wrong number of arguments for '"
 fixed_text refusal.KeyLength = codes "ERR key must have 1 to 255 bytes"
 fixed_text refusal.MemberLength = codes "ERR member is longer than 4096 bytes"
 fixed_text refusal.WordLength = codes "ERR word is longer than 4096 bytes"
 fixed_text refusal.NoDatabase = codes "ERR DB index is out of range"
 fixed_text refusal.NoProtocol = codes "NOPROTO unsupported protocol version"
+fixed_text refusal.NoTransactions = codes "ERR transactions are not served"
+fixed_text refusal.Aborted = codes "EXECABORT Transaction discarded because of previous errors."
+fixed_text refusal.NothingToExecute = codes "ERR EXEC without MULTI"
+fixed_text refusal.NothingToDiscard = codes "ERR DISCARD without MULTI"
 fixed_text (refusal.SetFull progress) = codes "ERR set is full: it has 1000 members"
 fixed_text (refusal.StoreFull progress) = codes "OOM the node's store is full"
 fixed_text (refusal.NoAnswer progress) = codes "TRYAGAIN no answer in time, it may have acted"
+
+-- what is told behind the second word of a command that is none of its words
+abbrev pub help_of : Verb → List ℕ
+help_of verb.Client = codes "'. Try CLIENT HELP."
+help_of verb.Command = codes "'. Try COMMAND HELP."
+help_of _ = codes "'. Try CONFIG HELP."
 
 -- what is told behind it
 abbrev pub detail : Refusal → List ℕ
 detail (refusal.Protocol error) = protocol_text error
 detail (refusal.UnknownCommand name) = shown name ++ codes "'"
+detail (refusal.UnknownSubcommand verb name) = shown name ++ help_of verb
 detail (refusal.WrongNumber verb) = verb_text verb ++ codes "' command"
 detail (refusal.SetFull progress) = progress_text progress
 detail (refusal.StoreFull progress) = progress_text progress

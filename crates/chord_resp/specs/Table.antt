@@ -13,7 +13,7 @@ use Rattle.chord_resp.specs.declared.table.command.Command.TheVariants as comman
 use Rattle.chord_resp.specs.declared.table.denied.Denied.{Denied}
 use Rattle.chord_resp.specs.declared.table.denied.Denied.TheVariants as denied
 use Rattle.chord_resp.specs.declared.table.refusal.Refusal.{Refusal}
-use Rattle.chord_resp.specs.declared.table.refusal.Refusal.TheVariants.{UnknownCommand, WrongNumber, KeyLength, MemberLength, WordLength, NoDatabase, NoProtocol}
+use Rattle.chord_resp.specs.declared.table.refusal.Refusal.TheVariants.{UnknownCommand, UnknownSubcommand, WrongNumber, KeyLength, MemberLength, WordLength, NoDatabase, NoProtocol, NoTransactions}
 
 infixl 10 ◌>>=◌
 abbrev pub ◌>>=◌ : {A B : Type 0} → Result A Refusal → (A → Result B Refusal) → Result B Refusal
@@ -47,11 +47,18 @@ verb_text verb.Command = codes "command"
 verb_text verb.Config = codes "config"
 verb_text verb.Info = codes "info"
 verb_text verb.Quit = codes "quit"
+verb_text verb.Reset = codes "reset"
+verb_text verb.Multi = codes "multi"
+verb_text verb.Exec = codes "exec"
+verb_text verb.Discard = codes "discard"
+verb_text verb.Watch = codes "watch"
+verb_text verb.Unwatch = codes "unwatch"
 
 -- all of them
 abbrev pub all_verbs : List Verb
 all_verbs = verb.Sadd ∷ verb.Srem ∷ verb.Smembers ∷ verb.Scard ∷ verb.Sismember ∷ verb.Smismember ∷ verb.Exists ∷ verb.Type ∷ verb.Ping ∷ verb.Echo
-    ∷ verb.Select ∷ verb.Client ∷ verb.Hello ∷ verb.Command ∷ verb.Config ∷ verb.Info ∷ verb.Quit ∷ []
+    ∷ verb.Select ∷ verb.Client ∷ verb.Hello ∷ verb.Command ∷ verb.Config ∷ verb.Info ∷ verb.Quit ∷ verb.Reset
+    ∷ verb.Multi ∷ verb.Exec ∷ verb.Discard ∷ verb.Watch ∷ verb.Unwatch ∷ []
 
 -- the word is this text, in upper or lower case
 unfoldable pub is_text : Word → List ℕ → Bool
@@ -91,6 +98,12 @@ takes verb.Command words = true
 takes verb.Config words = nat_le 1 words
 takes verb.Info words = nat_le words 1
 takes verb.Quit words = words == 0
+takes verb.Reset words = words == 0
+takes verb.Multi words = words == 0
+takes verb.Exec words = words == 0
+takes verb.Discard words = words == 0
+takes verb.Watch words = nat_le 1 words
+takes verb.Unwatch words = words == 0
 
 -- commands on sets
 abbrev pub is_of_sets : Verb → Bool
@@ -186,51 +199,57 @@ hello_of [] = Ok command.Hello
 hello_of (word ∷ words) = if is_text word (codes "2") then Ok command.Hello else Err NoProtocol
 
 -- CLIENT and its second word
-unfoldable pub client_of : Word → List Word → Result Command Refusal
-client_of name [] = Err (WrongNumber verb.Client)
-client_of name (word ∷ words) =
+unfoldable pub client_of : List Word → Result Command Refusal
+client_of [] = Err (WrongNumber verb.Client)
+client_of (word ∷ words) =
     if is_text word (codes "setname") || is_text word (codes "no-evict") || is_text word (codes "no-touch") then counted (length words == 1) verb.Client command.Accept
     else (if is_text word (codes "setinfo") then counted (length words == 2) verb.Client command.Accept
     else (if is_text word (codes "getname") then counted (length words == 0) verb.Client command.Name
     else (if is_text word (codes "id") then counted (length words == 0) verb.Client command.Number
-    else Err (UnknownCommand name))))
+    else Err (UnknownSubcommand verb.Client word))))
 
 -- COMMAND and its second word
-unfoldable pub command_command : Word → List Word → Result Command Refusal
-command_command name [] = Ok command.Nothing
-command_command name (word ∷ words) =
+unfoldable pub command_command : List Word → Result Command Refusal
+command_command [] = Ok command.Nothing
+command_command (word ∷ words) =
     if is_text word (codes "docs") || is_text word (codes "info") then Ok command.Nothing
     else (if is_text word (codes "count") then counted (length words == 0) verb.Command command.Commands
-    else Err (UnknownCommand name))
+    else Err (UnknownSubcommand verb.Command word))
 
 -- CONFIG GET and a name
-unfoldable pub config_of : Word → List Word → Result Command Refusal
-config_of name [] = Err (WrongNumber verb.Config)
-config_of name (word ∷ words) =
+unfoldable pub config_of : List Word → Result Command Refusal
+config_of [] = Err (WrongNumber verb.Config)
+config_of (word ∷ words) =
     if is_text word (codes "get") then counted (length words == 1) verb.Config command.Nothing
-    else Err (UnknownCommand name)
+    else Err (UnknownSubcommand verb.Config word)
 
-abbrev pub connection_command : Verb → Word → List Word → Result Command Refusal
-connection_command verb.Ping name words = ping_of words
-connection_command verb.Echo name words = ping_of words
-connection_command verb.Select name words = select_of words
-connection_command verb.Hello name words = hello_of words
-connection_command verb.Client name words = client_of name words
-connection_command verb.Command name words = command_command name words
-connection_command verb.Config name words = config_of name words
-connection_command verb.Info name words = Ok command.Info
-connection_command _ name words = Ok command.Quit
+abbrev pub connection_command : Verb → List Word → Result Command Refusal
+connection_command verb.Ping words = ping_of words
+connection_command verb.Echo words = ping_of words
+connection_command verb.Select words = select_of words
+connection_command verb.Hello words = hello_of words
+connection_command verb.Client words = client_of words
+connection_command verb.Command words = command_command words
+connection_command verb.Config words = config_of words
+connection_command verb.Info words = Ok command.Info
+connection_command verb.Reset words = Ok command.Reset
+connection_command verb.Multi words = Ok command.Multi
+connection_command verb.Exec words = Ok command.Exec
+connection_command verb.Discard words = Ok command.Discard
+connection_command verb.Watch words = Err NoTransactions
+connection_command verb.Unwatch words = Ok command.Accept
+connection_command _ words = Ok command.Quit
 
 -- ---- any command
 
-abbrev pub command_with : Verb → Word → List Word → Result Command Refusal
-command_with v name words =
-    if takes v (length words) then (if is_of_sets v then set_command v words else connection_command v name words)
+abbrev pub command_with : Verb → List Word → Result Command Refusal
+command_with v words =
+    if takes v (length words) then (if is_of_sets v then set_command v words else connection_command v words)
     else Err (WrongNumber v)
 
 abbrev pub command_named : Option Verb → Word → List Word → Result Command Refusal
 command_named None name words = Err (UnknownCommand name)
-command_named (Some v) name words = command_with v name words
+command_named (Some v) name words = command_with v words
 
 -- the command of some words, of which the first is its name
 unfoldable pub command_of : List Word → Result Command Refusal

@@ -1,7 +1,6 @@
 pub mod Outputs
 pub mod Steps
 pub mod Sessions
-pub mod Parts
 pub mod Asks
 pub mod Waits
 pub mod Links

@@ -14,7 +14,7 @@ use Rattle.chord_resp.specs.Spelling.{bulk}
 use Rattle.chord_resp.specs.Answers.{simple, error, integer, null, count, bulks, integers, Joins}
 use Rattle.chord_resp.specs.Refusals.{refusal_text}
 use Rattle.chord_resp_serve.specs.declared.about.About.{About}
-use Rattle.chord_resp_serve.specs.declared.numbers.Numbers.{Numbers}
+use Rattle.chord_resp_serve.specs.declared.standing.Standing.{Standing}
 use Rattle.chord_resp_serve.specs.declared.tally.Tally.{Tally}
 use Rattle.chord_resp_serve.specs.declared.tally.Stopped.{Stopped}
 use Rattle.chord_resp_serve.specs.declared.tally.Stopped.TheVariants as stopped
@@ -56,9 +56,13 @@ answer_of about command.Name t = null
 answer_of about command.Number t = integer about.number
 answer_of about command.Hello t = hello about.number
 answer_of about command.Nothing t = count 0
-answer_of about command.Commands t = integer 17
+answer_of about command.Commands t = integer 23
 answer_of about command.Info t = bulk about.info.now
 answer_of about command.Quit t = simple (codes "OK")
+answer_of about command.Reset t = simple (codes "RESET")
+answer_of about command.Multi t = simple (codes "OK")
+answer_of about command.Exec t = count 0
+answer_of about command.Discard t = simple (codes "OK")
 
 -- the error of a command that ended before its last request, of which it has this many
 abbrev pub refusal_of : ℕ → Stopped → Option Refusal
@@ -79,18 +83,18 @@ Tells about c (Err s) result old new = TellsOf (refusal_of (length (requests_of 
 
 module _ {A : Type 0} (answers : A → Question → Asked → A → Type 0) where
   -- the command asks nothing, or there was no memory for its requests
-  pub record AsksNothing (about : About) (c : Command) (n : Numbers) (a : A) (result : Result (Unit {0}) AllocError) (old new : List ℕ) (n' : Numbers) (a' : A) : Type 0 where
-    pub numbers : n' ≡ n
+  pub record AsksNothing (about : About) (c : Command) (n : Standing) (a : A) (result : Result (Unit {0}) AllocError) (old new : List ℕ) (n' : Standing) (a' : A) : Type 0 where
+    pub standing : n' ≡ n
     pub asker : a' ≡ a
     pub told : ((requests_of c ≡ []) × Joins result old new (answer_of about c empty_tally)) ⊎ (IsErr result × (new ≡ old))
 
   -- the command's requests were asked
-  pub record AsksAll (about : About) (c : Command) (n : Numbers) (a : A) (result : Result (Unit {0}) AllocError) (old new : List ℕ) (n' : Numbers) (a' : A) : Type 0 where
+  pub record AsksAll (about : About) (c : Command) (n : Standing) (a : A) (result : Result (Unit {0}) AllocError) (old new : List ℕ) (n' : Standing) (a' : A) : Type 0 where
     pub asks : requests_of c ≢ []
     pub outcome : Result Tally Stopped
     pub asked : AsksFrom answers n a empty_tally (requests_of c) outcome n' a'
     pub told : Tells about c outcome result old new
 
   -- what a command asks, each question once and in order, and what is added to the output
-  abbrev pub AnswersCommand : About → Command → Numbers → A → Result (Unit {0}) AllocError → List ℕ → List ℕ → Numbers → A → Type 0
+  abbrev pub AnswersCommand : About → Command → Standing → A → Result (Unit {0}) AllocError → List ℕ → List ℕ → Standing → A → Type 0
   AnswersCommand about c n a result old new n' a' = AsksNothing about c n a result old new n' a' ⊎ AsksAll about c n a result old new n' a'

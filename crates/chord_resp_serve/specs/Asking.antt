@@ -10,7 +10,7 @@ use Rattle.chord_serve.specs.declared.asker.Asked.TheVariants as asked
 use Rattle.chord_serve.specs.Question.{Question, Ask}
 use Rattle.chord_resp.specs.declared.table.command.Command.{Command}
 use Rattle.chord_resp.specs.declared.table.command.Command.TheVariants as command
-use Rattle.chord_resp_serve.specs.declared.numbers.Numbers.{Numbers}
+use Rattle.chord_resp_serve.specs.declared.standing.Standing.{Standing}
 use Rattle.chord_resp_serve.specs.declared.tally.Tally.{Tally}
 use Rattle.chord_resp_serve.specs.declared.tally.Stopped.{Stopped}
 use Rattle.chord_resp_serve.specs.declared.tally.Stopped.TheVariants as stopped
@@ -83,19 +83,19 @@ abbrev pub next_number : ℕ → ℕ
 next_number asked = min (asked + 1) (2 ^ 64 - 1)
 
 -- one more request was asked
-abbrev pub asked_one : Numbers → Numbers
-asked_one n = record { asked = next_number n.asked }
+abbrev pub asked_one : Standing → Standing
+asked_one n = record n { asked = next_number n.asked }
 
 module _ {A : Type 0} (answers : A → Question → Asked → A → Type 0) where
   -- after this tally: the other requests are asked, or the command has ended
-  abbrev pub AsksOn : (Tally → Type 0) → Result Tally Stopped → Numbers → A → Result Tally Stopped → Numbers → A → Type 0
+  abbrev pub AsksOn : (Tally → Type 0) → Result Tally Stopped → Standing → A → Result Tally Stopped → Standing → A → Type 0
   AsksOn more (Ok t) n a result n' a' = more t
   AsksOn more (Err s) n a result n' a' = (result ≡ Err s) × (n' ≡ n) × (a' ≡ a)
 
   -- The requests are asked once each and in order, up to the first that is not done; with what
-  -- their answers come to, and the numbers afterwards. Whatever was asked before was told, so each
+  -- their answers come to, and the standing afterwards. Whatever was asked before was told, so each
   -- gives up all requests before it that have no reply.
-  abbrev pub AsksFrom : Numbers → A → Tally → List Request → Result Tally Stopped → Numbers → A → Type 0
+  abbrev pub AsksFrom : Standing → A → Tally → List Request → Result Tally Stopped → Standing → A → Type 0
   AsksFrom n a t [] result n' a' = (result ≡ Ok t) × (n' ≡ n) × (a' ≡ a)
   AsksFrom n a t (r ∷ rest) result n' a' = (answer : Asked) × (b : A) × answers a (Ask r n.asked) answer b
       × AsksOn (λ u. AsksFrom (asked_one n) b u rest result n' a') (heard t answer) (asked_one n) b result n' a'

@@ -18,12 +18,12 @@ use Rattle.chord_resp.specs.Table.{is_text, verb_text}
 use Rattle.chord_resp_serve.specs.declared.about.About.{About}
 use Rattle.chord_resp_serve.specs.declared.flow.Flow.{Flow}
 use Rattle.chord_resp_serve.specs.declared.flow.Flow.TheVariants as flow
-use Rattle.chord_resp_serve.specs.declared.numbers.Numbers.{Numbers}
+use Rattle.chord_resp_serve.specs.declared.standing.Standing.{Standing}
 use Rattle.chord_resp_serve.specs.Words.{AnswersWords}
 
 -- a connection before its first request
-abbrev pub first_numbers : Numbers
-first_numbers = record { asked = 0 }
+abbrev pub first_standing : Standing
+first_standing = record { asked = 0; is_in_transaction = false }
 
 -- whether the words are those of INFO
 abbrev pub asks_info : List Word → Bool
@@ -56,72 +56,72 @@ module _ {A : Type 0} (answers : A → Question → Asked → A → Type 0) (tel
     pub informed : asks_info words ≡ true → tells about.info.now
 
   -- the words of a command are answered with these bytes, behind what was due before
-  pub record AnswersOne (words : List Word) (flow : Result Flow AllocError) (n : Numbers) (a : A) (bytes : List ℕ) (n' : Numbers) (a' : A) : Type 0 where
+  pub record AnswersOne (words : List Word) (flow : Result Flow AllocError) (n : Standing) (a : A) (bytes : List ℕ) (n' : Standing) (a' : A) : Type 0 where
     pub about : About
     pub knows : Knows words about
     pub due : List ℕ
     pub answered : AnswersWords answers about words n a flow due (due ++ bytes) n' a'
 
   -- the commands are answered one after another
-  abbrev pub AnswersEach : List (List Word) → Numbers → A → List ℕ → Numbers → A → Type 0
+  abbrev pub AnswersEach : List (List Word) → Standing → A → List ℕ → Standing → A → Type 0
   AnswersEach [] n a output n' a' = (output ≡ []) × (n' ≡ n) × (a' ≡ a)
-  AnswersEach (words ∷ more) n a output n' a' = (bytes : List ℕ) × (rest : List ℕ) × (m : Numbers) × (b : A)
+  AnswersEach (words ∷ more) n a output n' a' = (bytes : List ℕ) × (rest : List ℕ) × (m : Standing) × (b : A)
       × AnswersOne words (Ok flow.GoesOn) n a bytes m b × AnswersEach more m b rest n' a' × (output ≡ bytes ++ rest)
 
   -- the next command may have asked its questions, and is not answered
-  pub record AsksNext (next : Reading) (n : Numbers) (a : A) (a' : A) : Type 0 where
+  pub record AsksNext (next : Reading) (n : Standing) (a : A) (a' : A) : Type 0 where
     pub words : List Word
     pub rest : Reading
     pub next_is : next ≡ with_commands (words ∷ []) rest
     pub refused : AllocError
-    pub numbers : Numbers
-    pub asked : AnswersOne words (Err refused) n a [] numbers a'
+    pub standing : Standing
+    pub asked : AnswersOne words (Err refused) n a [] standing a'
 
 -- from this state of the reader on
 module _ {A : Type 0} (answers : A → Question → Asked → A → Type 0) (tells : List ℕ → Type 0) (number : ℕ) (from : State) where
   -- the first commands of the bytes are answered, and this is still to be read
-  pub record AnswersSome (n : Numbers) (a : A) (input output : List ℕ) (next : Reading) (n' : Numbers) (a' : A) : Type 0 where
+  pub record AnswersSome (n : Standing) (a : A) (input output : List ℕ) (next : Reading) (n' : Standing) (a' : A) : Type 0 where
     pub commands : List (List Word)
     pub spelled : reading from input ≡ with_commands commands next
     pub answered : AnswersEach answers tells number commands n a output n' a'
 
   -- all commands of the bytes are answered; the next one has come so far
-  pub record AnswersWhole (n : Numbers) (a : A) (input output : List ℕ) (state : State) (a' : A) : Type 0 where
-    pub numbers : Numbers
-    pub some : AnswersSome n a input output (open_at state) numbers a'
+  pub record AnswersWhole (n : Standing) (a : A) (input output : List ℕ) (state : State) (a' : A) : Type 0 where
+    pub standing : Standing
+    pub some : AnswersSome n a input output (open_at state) standing a'
 
   -- bytes that are no command are told, behind the answers to the commands before them
-  pub record RefusesBytes (end : Served) (n : Numbers) (a : A) (input output : List ℕ) (a' : A) : Type 0 where
+  pub record RefusesBytes (end : Served) (n : Standing) (a : A) (input output : List ℕ) (a' : A) : Type 0 where
     pub error : ProtocolError
     pub end_is : end ≡ end_at error
     pub said : List ℕ
-    pub numbers : Numbers
-    pub some : AnswersSome n a input said (broken_by error) numbers a'
+    pub standing : Standing
+    pub some : AnswersSome n a input said (broken_by error) standing a'
     pub output_is : output ≡ said ++ protocol_answer error
 
   -- the client asked for the end
-  pub record Quits (n : Numbers) (a : A) (input output : List ℕ) (a' : A) : Type 0 where
+  pub record Quits (n : Standing) (a : A) (input output : List ℕ) (a' : A) : Type 0 where
     pub words : List Word
     pub next : Reading
     pub said : List ℕ
     pub bytes : List ℕ
-    pub between : Numbers
+    pub between : Standing
     pub asker : A
     pub some : AnswersSome n a input said (with_commands (words ∷ []) next) between asker
-    pub numbers : Numbers
-    pub last : AnswersOne answers tells number words (Ok flow.Quits) between asker bytes numbers a'
+    pub standing : Standing
+    pub last : AnswersOne answers tells number words (Ok flow.Quits) between asker bytes standing a'
     pub output_is : output ≡ said ++ bytes
 
   -- memory ran out
-  pub record RunsOut (n : Numbers) (a : A) (input output : List ℕ) (a' : A) : Type 0 where
+  pub record RunsOut (n : Standing) (a : A) (input output : List ℕ) (a' : A) : Type 0 where
     pub next : Reading
-    pub between : Numbers
+    pub between : Standing
     pub asker : A
     pub some : AnswersSome n a input output next between asker
     pub last : (a' ≡ asker) ⊎ AsksNext answers tells number next between asker a'
 
   -- a command, or bytes that are none, ended the connection
-  abbrev pub IsEnded : Served → Numbers → A → List ℕ → List ℕ → A → Type 0
+  abbrev pub IsEnded : Served → Standing → A → List ℕ → List ℕ → A → Type 0
   IsEnded served.Protocol n a input output a' = RefusesBytes served.Protocol n a input output a'
   IsEnded served.Foreign n a input output a' = RefusesBytes served.Foreign n a input output a'
   IsEnded served.Quit n a input output a' = Quits n a input output a'
@@ -129,30 +129,23 @@ module _ {A : Type 0} (answers : A → Question → Asked → A → Type 0) (tel
   IsEnded end n a input output a' = ⊥
 
   -- only a prefix of the output was written
-  pub record WritesPart (n : Numbers) (a : A) (input output : List ℕ) (a' : A) : Type 0 where
+  pub record WritesPart (n : Standing) (a : A) (input output : List ℕ) (a' : A) : Type 0 where
     pub whole : List ℕ
     pub rest : List ℕ
     pub parts : whole ≡ output ++ rest
-    pub done : ((next : Reading) × (numbers : Numbers) × AnswersSome n a input whole next numbers a')
+    pub done : ((next : Reading) × (standing : Standing) × AnswersSome n a input whole next standing a')
         ⊎ ((end : Served) × IsEnded end n a input whole a')
 
   -- What a connection read and wrote from this state on, when it ended in this way: the answers to
   -- the commands that its input spells, each question asked once and in order. At Write it wrote a
   -- prefix of its output.
-  abbrev pub IsAnswered : Served → Numbers → A → List ℕ → List ℕ → A → Type 0
+  abbrev pub IsAnswered : Served → Standing → A → List ℕ → List ℕ → A → Type 0
   IsAnswered served.Ended n a input output a' = (state : State) × (is_at_start state.phase ≡ true) × AnswersWhole n a input output state a'
   IsAnswered served.Truncated n a input output a' = (state : State) × (is_at_start state.phase ≡ false) × AnswersWhole n a input output state a'
   IsAnswered served.Read n a input output a' = (state : State) × AnswersWhole n a input output state a'
   IsAnswered served.TurnsSpent n a input output a' = (state : State) × AnswersWhole n a input output state a'
   IsAnswered served.Write n a input output a' = WritesPart n a input output a'
   IsAnswered end n a input output a' = IsEnded end n a input output a'
-
--- what holds where a connection goes on, since its turns were spent or a read failed, or where it
--- is over
-abbrev pub GoesOnOr : Served → (goes_on is_over : Type 0) → Type 0
-GoesOnOr served.TurnsSpent goes_on is_over = goes_on
-GoesOnOr served.Read goes_on is_over = goes_on
-GoesOnOr end goes_on is_over = is_over
 
 -- ---- one step
 
@@ -168,19 +161,19 @@ module _ {A : Type 0} (answers : A → Question → Asked → A → Type 0) (tel
     pub bytes_are : bytes ≡ protocol_answer error
 
   -- QUIT is answered
-  pub record AnswersQuit (next : Reading) (n : Numbers) (a : A) (bytes : List ℕ) (a' : A) : Type 0 where
+  pub record AnswersQuit (next : Reading) (n : Standing) (a : A) (bytes : List ℕ) (a' : A) : Type 0 where
     pub words : List Word
     pub rest : Reading
     pub next_is : next ≡ with_commands (words ∷ []) rest
-    pub numbers : Numbers
-    pub answered : AnswersOne answers tells number words (Ok flow.Quits) n a bytes numbers a'
+    pub standing : Standing
+    pub answered : AnswersOne answers tells number words (Ok flow.Quits) n a bytes standing a'
 
   -- nothing is told, and the next command may have asked its questions
-  pub record TellsNothing (next : Reading) (n : Numbers) (a : A) (bytes : List ℕ) (a' : A) : Type 0 where
+  pub record TellsNothing (next : Reading) (n : Standing) (a : A) (bytes : List ℕ) (a' : A) : Type 0 where
     pub bytes_are : bytes ≡ []
     pub last : (a' ≡ a) ⊎ AsksNext answers tells number next n a a'
 
-  abbrev pub StopsSo : Served → Reading → Numbers → A → List ℕ → A → Type 0
+  abbrev pub StopsSo : Served → Reading → Standing → A → List ℕ → A → Type 0
   StopsSo served.Protocol next n a bytes a' = TellsError served.Protocol next a bytes a'
   StopsSo served.Foreign next n a bytes a' = TellsError served.Foreign next a bytes a'
   StopsSo served.Quit next n a bytes a' = AnswersQuit next n a bytes a'
@@ -193,16 +186,3 @@ TellsProtocol e served.Protocol old new = (served.Protocol ≡ end_at e) × (new
 TellsProtocol e served.Foreign old new = (served.Foreign ≡ end_at e) × (new ≡ old)
 TellsProtocol e served.Memory old new = (served.Protocol ≡ end_at e) × (new ≡ old)
 TellsProtocol e end old new = ⊥
-
-module _ {A : Type 0} (answers : A → Question → Asked → A → Type 0) (tells : List ℕ → Type 0) (number : ℕ) where
-  -- a command may have asked its questions, and there was no memory to answer it
-  pub record LacksMemory (words : List Word) (n : Numbers) (a : A) (n' : Numbers) (a' : A) : Type 0 where
-    pub refused : AllocError
-    pub asked : AnswersOne answers tells number words (Err refused) n a [] n' a'
-
-  -- the words of a command are answered, or end the connection
-  abbrev pub AnswersDue : List Word → Result Bool Served → Numbers → A → List ℕ → List ℕ → Numbers → A → Type 0
-  AnswersDue words (Ok true) n a old new n' a' = (bytes : List ℕ) × AnswersOne answers tells number words (Ok flow.GoesOn) n a bytes n' a' × (new ≡ old ++ bytes)
-  AnswersDue words (Err served.Quit) n a old new n' a' = (bytes : List ℕ) × AnswersOne answers tells number words (Ok flow.Quits) n a bytes n' a' × (new ≡ old ++ bytes)
-  AnswersDue words (Err served.Memory) n a old new n' a' = (new ≡ old) × ((a' ≡ a) ⊎ LacksMemory words n a n' a')
-  AnswersDue words result n a old new n' a' = ⊥

@@ -1,6 +1,7 @@
 pub mod Asking
 pub mod Answering
 pub mod Words
+pub mod Transactions
 pub mod Connections
 pub mod Stored
 pub mod Waiting

@@ -21,32 +21,33 @@ use Rattle.chord_resp_serve.specs.declared.hearing.Course.TheVariants.{Ended, Wa
 use Rattle.chord_resp_serve.specs.declared.command_protocol.CommandProtocol.{CommandProtocol}
 use Rattle.chord_resp_serve.specs.declared.flow.Flow.{Flow}
 use Rattle.chord_resp_serve.specs.declared.flow.Flow.TheVariants as flow
-use Rattle.chord_resp_serve.specs.declared.numbers.Numbers.{Numbers}
+use Rattle.chord_resp_serve.specs.declared.standing.Standing.{Standing}
 use Rattle.chord_resp_serve.specs.declared.tally.Tally.{Tally}
 use Rattle.chord_resp_serve.specs.declared.waiting_command.WaitingCommand.{WaitingCommand}
 use Rattle.chord_resp_serve.specs.Asking.{AsksFrom, asked_one, empty_tally, outcome_of}
 use Rattle.chord_resp_serve.specs.Connections.{AnswersOne, StopsSo, asks_info}
+use Rattle.chord_resp_serve.specs.Transactions.{allowed, standing_behind}
 
 -- ---- the requests of a command
 
 module _ {A : Type 0} (answers : A → Question → Asked → A → Type 0) where
   -- The first requests are asked, each once and in order, and are done, which came to the second
   -- tally. The next one is asked, and its answer is not heard yet.
-  pub record AsksUpTo (n : Numbers) (a : A) (t : Tally) (requests : List Request) (answer : Asked)
-      (u : Tally) (n' : Numbers) (a' : A) : Type 0 where
+  pub record AsksUpTo (n : Standing) (a : A) (t : Tally) (requests : List Request) (answer : Asked)
+      (u : Tally) (n' : Standing) (a' : A) : Type 0 where
     pub first : List Request
     pub next : Request
     pub rest : List Request
     pub parts : requests ≡ first ++ next ∷ rest
     pub count : u.done ≡ t.done + length first
-    pub between : Numbers
+    pub between : Standing
     pub asker : A
     pub done : AsksFrom answers n a t first (Ok u) between asker
     pub asked : answers asker (Ask next between.asked) answer a'
-    pub numbers : n' ≡ asked_one between
+    pub standing : n' ≡ asked_one between
 
   -- the requests are asked, as `AsksFrom` says, or up to one that waits
-  abbrev pub AsksSome : Course → Numbers → A → Tally → List Request → Tally → Numbers → A → Type 0
+  abbrev pub AsksSome : Course → Standing → A → Tally → List Request → Tally → Standing → A → Type 0
   AsksSome (Ended outcome) n a t requests u n' a' =
       AsksFrom answers n a t requests (outcome_of outcome u) n' a'
   AsksSome Waits n a t requests u n' a' = AsksUpTo n a t requests asked.NoAnswer u n' a'
@@ -63,7 +64,7 @@ module _ {A I : Type 0} where
   -- a piece of the input is read behind what came before
   abbrev pub CommandHears : CommandProtocol A I → List ℕ → CommandProtocol A I → Type 0
   CommandHears c piece d = (reading_of d.commands ≡ with_more (reading_of c.commands) piece)
-      × (d.numbers ≡ c.numbers) × (d.asker ≡ c.asker) × (d.server ≡ c.server)
+      × (d.standing ≡ c.standing) × (d.asker ≡ c.asker) × (d.server ≡ c.server)
 
   -- every byte is read
   abbrev pub CommandRests : CommandProtocol A I → Type 0
@@ -88,7 +89,7 @@ module _ {A I : Type 0} where
       (command : Command) (info : List ℕ) (d : CommandProtocol A I) : Type 0 where
     pub words : List Word
     pub taken : TakesWords c words d
-    pub command_is : command_of words ≡ Ok command
+    pub command_is : allowed c.standing.is_in_transaction (command_of words) ≡ Ok command
     pub informed : asks_info words ≡ true → tells c.server.source.now info
 
   module _ (answers : A → Question → Asked → A → Type 0) (tells : I → List ℕ → Type 0) where
@@ -97,7 +98,7 @@ module _ {A I : Type 0} where
     CommandSays c bytes d = (words : List Word)
         × (reading_of c.commands ≡ with_commands (words ∷ []) (reading_of d.commands))
         × AnswersOne answers (tells c.server.source.now) c.server.number words (Ok flow.GoesOn)
-        c.numbers c.asker bytes d.numbers d.asker
+        c.standing c.asker bytes d.standing d.asker
         × (d.server ≡ c.server)
 
     -- it ends the connection
@@ -105,15 +106,16 @@ module _ {A I : Type 0} where
         → Type 0
     CommandStops end c bytes d =
         StopsSo answers (tells c.server.source.now) c.server.number end (reading_of c.commands)
-        c.numbers c.asker bytes d.asker
+        c.standing c.asker bytes d.asker
 
     -- The next command was begun: its first requests are done, and the one behind them got this
     -- answer, which is not heard yet.
     pub record CommandAsked (c : CommandProtocol A I) (waiting : WaitingCommand) (answer : Asked)
         (d : CommandProtocol A I) : Type 0 where
       pub taken : TakesCommand tells c waiting.command waiting.info.items d
-      pub asked : AsksUpTo answers c.numbers c.asker empty_tally waiting.requests answer
-          waiting.tally d.numbers d.asker
+      pub asked : AsksUpTo answers (standing_behind c.standing (command_of taken.words)) c.asker
+          empty_tally waiting.requests answer
+          waiting.tally d.standing d.asker
 
     -- it waits for that answer
     abbrev pub CommandBegun : CommandProtocol A I → CommandProtocol A I → Type 0

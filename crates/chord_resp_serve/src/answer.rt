@@ -14,7 +14,7 @@ use chord_resp::{
 use std::alloc::{AllocError, Global};
 
 /// How many commands COMMAND COUNT tells of.
-const COMMANDS: u64 = 17;
+const COMMANDS: u64 = 23;
 
 impl Tally {
     // The values of the last reply.
@@ -101,14 +101,17 @@ pub fn put_answer(
         Command::Kind { .. } => put_simple(out, kind_of(tally.values())),
         Command::Ping => put_simple(out, b"PONG"),
         Command::Echo { word } => put_bulk(out, word.as_slice()),
-        Command::Accept | Command::Quit => put_simple(out, b"OK"),
+        Command::Accept | Command::Quit | Command::Multi | Command::Discard => {
+            put_simple(out, b"OK")
+        }
+        Command::Reset => put_simple(out, b"RESET"),
         Command::Name => put_null(out),
         Command::Number => put_integer(out, about.number),
         Command::Hello => {
             let text = hello(alloc, about.number)?;
             out.extend_from_slice(&text)
         }
-        Command::Nothing => put_count(out, 0),
+        Command::Nothing | Command::Exec => put_count(out, 0),
         Command::Commands => put_integer(out, COMMANDS),
         Command::Info => put_bulk(out, about.info),
     }

@@ -1,35 +1,37 @@
 //! Redis's protocol, as the protocol of a link.
-ghost use Rattle.std.specs.Prelude.{◌≡◌, ◌≢◌, ◌++◌, [], ℕ, List, Ok, true, IfErr};
+ghost use Rattle.std.specs.Prelude.{◌≡◌, ◌≢◌, ◌++◌, [], ℕ, List, length, Ok, true, IfErr};
 ghost use Rattle.chord_resp.specs.Answers.{error, Joins};
 ghost use Rattle.chord_resp.specs.Machine.{start};
+ghost use Rattle.chord_resp.specs.Reading.{reading_of};
 ghost use Rattle.chord_resp.specs.Refusals.{refusal_text};
+ghost use Rattle.chord_resp.specs.Table.{Gives, command_of};
 ghost use Rattle.chord_serve.specs.Ends.{IsStop};
 ghost use Rattle.chord_serve.specs.declared.link.stage.Step.TheVariants.{Later};
-ghost use Rattle.chord_resp_serve.specs.Connections.{first_numbers};
+ghost use Rattle.chord_resp_serve.specs.Connections.{first_standing};
+ghost use Rattle.chord_resp_serve.specs.Transactions.{GoesOnTo, allowed, standing_behind};
 ghost use Rattle.chord_resp_serve.specs.Waiting.{CommandAsked, CommandBegun, CommandHears, CommandIdles, CommandRests, CommandSays, CommandSteps, CommandStops, TakesCommand, TakesWords, is_between_commands, step_of};
 
 use crate::about::About;
 use crate::answer::put_answer;
-use crate::connection::{ServerInfo, info_for, tell_error};
-use crate::flow::Flow;
+use crate::flow::{Flow, flow_of, with_flow};
 use crate::hearing::{Course, hear_on};
 use crate::informs::Informs;
-use crate::numbers::Numbers;
-use crate::one_command::tell;
 use crate::requests::requests_of;
+use crate::server_info::{ServerInfo, info_for, tell_error};
+use crate::standing::Standing;
 use crate::tally::Tally;
+use crate::telling::tell;
 use crate::waiting_command::WaitingCommand;
-use crate::words::{flow_of, with_flow};
 use chord_resp::{Command, Commands, Denied, ReadError, Refusal, Words, command_of, put_refusal};
 use chord_serve::{Asked, Asker, Due, Protocol, Served, Step};
 use std::alloc::{AllocError, Global};
 
-/// The bytes that came and are not answered yet, the numbers of the requests, the server, the
-/// asker, and the command that waits for an answer.
+/// The bytes that came and are not answered yet, how far it is, the server, the asker, and the
+/// command that waits for an answer.
 #[derive(Drop)]
 pub struct CommandProtocol<'i, A, I> {
     commands: Commands,
-    numbers: Numbers,
+    standing: Standing,
     server: ServerInfo<'i, I>,
     asker: A,
     waiting: Option<WaitingCommand>,
@@ -48,6 +50,20 @@ fn step_of(told: Result<Flow, AllocError>) -> Result<Step, Served>
     }
 }
 
+/// The command that is done for these words, or why none is.
+fn called_for(alloc: Global, standing: &mut Standing, words: Words) -> Result<Command, Denied>
+    ensures exact { Gives (λ x. x) result
+        (allowed standing.old.is_in_transaction (command_of words)) }
+    ensures behind { GoesOnTo (standing_behind standing.old (command_of words)) result
+        standing.new }
+{
+    match command_of(alloc, words) {
+        Err(Denied::Memory) => Err(Denied::Memory),
+        Err(Denied::Refused(refusal)) => standing.pass(Err(refusal)),
+        Ok(command) => standing.pass(Ok(command)),
+    }
+}
+
 /// Adds the error of words that are no command.
 fn tell_refusal(alloc: Global, due: &mut Due, refusal: &Refusal) -> Result<(), AllocError>
     ensures { Joins result due.old due.new (error (refusal_text refusal.now)) }
@@ -59,14 +75,17 @@ impl<'i, A, I> CommandProtocol<'i, A, I> {
     /// A connection that has read nothing.
     pub fn new(alloc: Global, server: ServerInfo<'i, I>, asker: A) -> CommandProtocol<'i, A, I>
         ensures commands { result.commands ≡ record { state = start; bytes = [] } }
-        ensures numbers { result.numbers ≡ first_numbers }
+        ensures standing { result.standing ≡ first_standing }
         ensures server { result.server ≡ server.entry }
         ensures asker { result.asker ≡ asker }
         ensures idle { CommandIdles result }
     {
         CommandProtocol {
             commands: Commands::new(alloc),
-            numbers: Numbers { asked: 0 },
+            standing: Standing {
+                asked: 0,
+                is_in_transaction: false,
+            },
             server,
             asker,
             waiting: None,
@@ -78,7 +97,7 @@ impl<'i, A, I> CommandProtocol<'i, A, I> {
     {
         let CommandProtocol {
             commands,
-            numbers: _,
+            standing: _,
             server: _,
             asker,
             waiting,
@@ -103,6 +122,7 @@ impl<A: Asker, I: Informs> CommandProtocol<'_, A, I> {
         requires { CommandIdles self.old }
         ensures next { (before : _) → CommandAsked A.answers I.tells before waiting answer self.old
             → CommandSteps A.answers I.tells result before due.old due.new self.new }
+        ensures commands { self.new.commands ≡ self.old.commands }
         ensures grows { (bytes : List ℕ) × (due.new ≡ due.old ++ bytes) }
         ensures stop { IfErr result IsStop }
         ensures patient { result ≡ Ok Later → may_wait ≡ true }
@@ -117,7 +137,14 @@ impl<A: Asker, I: Informs> CommandProtocol<'_, A, I> {
         let place = tally.done as usize;
         let asker = &mut self.asker;
         let rest = &requests.as_slice()[place + 1..];
-        match hear_on(asker, &mut self.numbers, answer, rest, &mut tally, may_wait) {
+        match hear_on(
+            asker,
+            &mut self.standing,
+            answer,
+            rest,
+            &mut tally,
+            may_wait,
+        ) {
             Course::Waits => {
                 self.waiting = Some(WaitingCommand {
                     command,
@@ -152,9 +179,12 @@ impl<A: Asker, I: Informs> CommandProtocol<'_, A, I> {
         may_wait: bool,
     ) -> Result<Step, Served>
         requires { CommandIdles self.old }
-        ensures next { (before : _) → TakesCommand I.tells before command info.items self.old
-            → before.numbers ≡ self.old.numbers → before.asker ≡ self.old.asker
+        ensures next { (before : _)
+            → (taken : TakesCommand I.tells before command info.items self.old)
+            → self.old.standing ≡ standing_behind before.standing (command_of taken.words)
+            → before.asker ≡ self.old.asker
             → CommandSteps A.answers I.tells result before due.old due.new self.new }
+        ensures commands { self.new.commands ≡ self.old.commands }
         ensures grows { (bytes : List ℕ) × (due.new ≡ due.old ++ bytes) }
         ensures stop { IfErr result IsStop }
         ensures patient { result ≡ Ok Later → may_wait ≡ true }
@@ -173,8 +203,8 @@ impl<A: Asker, I: Informs> CommandProtocol<'_, A, I> {
             drop((command, requests, tally, info));
             return step_of(with_flow(told, flow));
         };
-        let answer = self.asker.ask(request, self.numbers.asked);
-        self.numbers.asked = self.numbers.asked.saturating_add(1);
+        let answer = self.asker.ask(request, self.standing.asked);
+        self.standing.asked = self.standing.asked.saturating_add(1);
         let waiting = WaitingCommand {
             command,
             requests,
@@ -195,8 +225,9 @@ impl<A: Asker, I: Informs> CommandProtocol<'_, A, I> {
     ) -> Result<Step, Served>
         requires { CommandIdles self.old }
         ensures next { (before : _) → TakesWords before words self.old
-            → before.numbers ≡ self.old.numbers → before.asker ≡ self.old.asker
+            → before.standing ≡ self.old.standing → before.asker ≡ self.old.asker
             → CommandSteps A.answers I.tells result before due.old due.new self.new }
+        ensures commands { self.new.commands ≡ self.old.commands }
         ensures grows { (bytes : List ℕ) × (due.new ≡ due.old ++ bytes) }
         ensures stop { IfErr result IsStop }
         ensures patient { result ≡ Ok Later → may_wait ≡ true }
@@ -205,7 +236,7 @@ impl<A: Asker, I: Informs> CommandProtocol<'_, A, I> {
             drop(words);
             return Err(Served::Memory);
         };
-        match command_of(alloc, words) {
+        match called_for(alloc, &mut self.standing, words) {
             Err(Denied::Memory) => Err(Served::Memory),
             Err(Denied::Refused(refusal)) => {
                 self.asker.refuse();
@@ -232,6 +263,8 @@ impl<A: Asker, I: Informs> Protocol for CommandProtocol<'_, A, I> {
     ghost begun = { CommandBegun A.answers I.tells };
 
     ghost between = { is_between_commands };
+
+    ghost unread = { λ c. length (reading_of c.commands).commands };
 
     fn is_between(&self) -> bool {
         self.commands.is_between()

@@ -4,9 +4,9 @@ ghost use Rattle.chord_map.specs.declared.request.Request.{Request as RequestOf}
 ghost use Rattle.chord_serve.specs.Question.{Ask};
 ghost use Rattle.chord_resp_serve.specs.Asking.{asked_one};
 ghost use Rattle.chord_resp_serve.specs.Waiting.{AsksSome};
-ghost use Rattle.chord_resp_serve.specs.declared.numbers.Numbers.{Numbers as NumbersOf};
+ghost use Rattle.chord_resp_serve.specs.declared.standing.Standing.{Standing as StandingOf};
 
-use crate::numbers::Numbers;
+use crate::standing::Standing;
 use crate::tally::{Stopped, Tally};
 use chord_map::Request;
 use chord_serve::{Asked, Asker};
@@ -20,11 +20,11 @@ pub enum Course {
 }
 
 /// Hears the answer to a request, and asks those behind it in order, up to the first that is not
-/// done, as [`ask_each`](crate::asking::ask_each) does. One that has no answer yet waits for it, if
-/// it may.
+/// done. Each gives up those before it that have no reply: their errors were told. One that has no
+/// answer yet waits for it, if it may.
 pub fn hear_on<A: Asker>(
     asker: &mut A,
-    numbers: &mut Numbers,
+    standing: &mut Standing,
     answer: Asked,
     rest: &[Request],
     tally: &mut Tally,
@@ -32,11 +32,11 @@ pub fn hear_on<A: Asker>(
 ) -> Course
     requires few { tally.old.count ≤ tally.old.done }
     requires fits { tally.old.done + length rest.now < 2 ^ 64 - 1 }
-    ensures asked { (before : NumbersOf) (first : _) (request : RequestOf)
+    ensures asked { (before : StandingOf) (first : _) (request : RequestOf)
         → A.answers first (Ask request before.asked) answer asker.old
-        → numbers.old ≡ asked_one before
+        → standing.old ≡ asked_one before
         → AsksSome A.answers result before first tally.old (request ∷ rest.now) tally.new
-        numbers.new asker.new }
+        standing.new asker.new }
     ensures few { tally.new.count ≤ tally.new.done }
     ensures next { result ≡ Course.Waits → tally.new.done ≤ tally.old.done + length rest.now }
     ensures patient { result ≡ Course.Waits → may_wait ≡ true }
@@ -53,9 +53,9 @@ pub fn hear_on<A: Asker>(
     match rest {
         [] => Course::Ended(Ok(())),
         [request, rest @ ..] => {
-            let answer = asker.ask(request, numbers.asked);
-            numbers.asked = numbers.asked.saturating_add(1);
-            hear_on(asker, numbers, answer, rest, tally, may_wait)
+            let answer = asker.ask(request, standing.asked);
+            standing.asked = standing.asked.saturating_add(1);
+            hear_on(asker, standing, answer, rest, tally, may_wait)
         }
     }
 }

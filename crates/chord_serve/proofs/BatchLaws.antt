@@ -14,7 +14,7 @@ use Rattle.chord_serve.specs.declared.served.Served.TheVariants as served
 use Rattle.std.specs.declared.alloc.AllocError.{AllocError}
 use Rattle.chord_serve.specs.Question.{Question}
 use Rattle.chord_serve.specs.Output.{bytes_written, state_after, questions}
-use Rattle.chord_serve.specs.Steps.{Step, Deals}
+use Rattle.chord_serve.specs.Steps.{Begins, Step}
 use Rattle.chord_serve.proofs.Serving.{Serves, Serves-append, as_function, serves}
 use Rattle.chord_wire.specs.Streams.{request_frame, Spells}
 use Rattle.chord_wire.specs.SessionSpelling.{closed_frame}
@@ -117,7 +117,7 @@ module _ {A : Type 0} (answers : A → Question → Asked → A → Type 0) wher
   closed_ends served.Protocol o v s a bytes old new closed w = absurd w
   closed_ends served.Foreign o v s a bytes old new closed w = absurd w
 
-  pub step_ends : (refused : AllocError) (o : Bool) (v : Option ℕ) (s t : SessionState) (a b : A) (r : WireRequest) (bytes rest old new : List ℕ) → next_request bytes ≡ Ok (Some (r, rest)) → is_other v r.version ≡ false → Deals answers (Err refused) s a r old new t b
+  pub step_ends : (refused : AllocError) (o : Bool) (v : Option ℕ) (s t : SessionState) (a b : A) (r : WireRequest) (bytes rest old new : List ℕ) → next_request bytes ≡ Ok (Some (r, rest)) → is_other v r.version ≡ false → Begins answers (Err refused) s a r old new t b
       → EndsSo served.Memory o v s a bytes old new (parted.Over b)
   step_ends refused o v s t a b r bytes rest old new next same d =
       ([], record { rest = bytes; version = v; state = s; asker = a; dealt = nothing v s a bytes; last = inl (record { request = r; behind = rest; next = next; same_version = same; may_ask = d.1 }) }, d.0 ∙ sym (append-nil old))

@@ -8,8 +8,11 @@ use Rattle.chord_serve.specs.declared.served.Served.{Served}
 use Rattle.chord_serve.specs.declared.served.Served.TheVariants as served
 use Rattle.chord_serve.specs.Ends.{IsStop, EndsInput}
 use Rattle.chord_serve.specs.Writes.{WritesPrefix}
-use Rattle.chord_serve.specs.Conversing.{Talks, IsStopped, Waits, LosesPiece, WritesPart, Conversed, Converses, AnswersNext, AnswersPart, EndsWritten, SendsPart, AnswersAll, AnswersPiece, TakesTurn}
+use Rattle.chord_serve.specs.Conversing.{Talks, IsStopped, Waits, LosesPiece, WritesPart, Conversed, Converses, AnswersPart, EndsWritten, SendsPart, AnswersAll, AnswersPiece, TakesTurn}
 use Rattle.chord_serve.specs.Conversing.Talks.{Begins, Hears, Says}
+use Rattle.chord_serve.specs.Stepping.{AnswersNext}
+use Rattle.chord_serve.specs.declared.link.stage.Step.{Step}
+use Rattle.chord_serve.specs.declared.link.stage.Step.TheVariants as steps
 use Rattle.chord_serve.proofs.BytesRead.{empty_if}
 
 -- an end caused by a request says nothing of the input
@@ -48,17 +51,21 @@ module _ {D : Type 0} (hears says : D → List ℕ → D → Type 0) (stops : Se
   abbrev Said : D → List ℕ → List ℕ → D → Type 0
   Said = Talks hears says
 
-  -- one more request
-  pub said_more : (a b c : D) (output due : List ℕ) → Talks hears says a [] output b → AnswersNext hears says stops waits (Ok true) b output due c → Talks hears says a [] due c
-  said_more a b c output due p q = talks_as hears says a c [] (output ++ q.0) [] due refl (sym q.2) (Says [] output q.0 b c p q.1)
+  module _ (idle : D → Type 0) (begun : D → D → Type 0) where
+    abbrev Next : Result Step Served → D → List ℕ → List ℕ → D → Type 0
+    Next = AnswersNext hears says stops waits idle begun
 
-  -- no more is whole
-  pub no_more : (a b c : D) (output due : List ℕ) → Talks hears says a [] output b → AnswersNext hears says stops waits (Ok false) b output due c → Talks hears says a [] due c
-  no_more a b c output due p q = talks_as hears says a c [] output [] due refl (sym q.2) (Hears [] output [] b c p q.1)
+    -- one more request
+    pub said_more : (a b c : D) (output due : List ℕ) → Talks hears says a [] output b → Next (Ok steps.Answered) b output due c → Talks hears says a [] due c
+    said_more a b c output due p q = talks_as hears says a c [] (output ++ q.0) [] due refl (sym q.3) (Says [] output q.0 b c p q.1)
 
-  -- the next request ended the dialogue
-  pub part_stops : (end : Served) (a b c : D) (output due : List ℕ) → Talks hears says a [] output b → AnswersNext hears says stops waits (Err end) b output due c → IsStopped hears says stops waits end a [] due c
-  part_stops end a b c output due p q = record { before = b; said = output; bytes = q.0; talked = p; stopped = q.1; output_is = q.2 }
+    -- no more is whole
+    pub no_more : (a b c : D) (output due : List ℕ) → Talks hears says a [] output b → Next (Ok steps.Nothing) b output due c → Talks hears says a [] due c
+    no_more a b c output due p q = talks_as hears says a c [] output [] due refl (sym q.3) (Hears [] output [] b c p q.1)
+
+    -- the next request ended the dialogue
+    pub part_stops : (end : Served) (a b c : D) (output due : List ℕ) → Talks hears says a [] output b → Next (Err end) b output due c → IsStopped hears says stops waits end a [] due c
+    part_stops end a b c output due p q = record { before = b; said = output; bytes = q.0; talked = p; stopped = q.1; output_is = q.2 }
 
   pub stopped_then : (end : Served) (a b c : D) (i o i' o' : List ℕ) → Talks hears says a i o b → IsStopped hears says stops waits end b i' o' c → IsStopped hears says stops waits end a (i ++ i') (o ++ o') c
   stopped_then end a b c i o i' o' p q = record {

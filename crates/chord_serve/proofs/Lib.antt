@@ -5,7 +5,6 @@ pub mod Conversing
 pub mod FittingReplies
 pub mod Framed
 pub mod Framings
-pub mod Greetings
 pub mod Outboxes
 pub mod Prefixes
 pub mod Resuming

@@ -69,13 +69,6 @@ module _ {D : Type 0} (hears says : D → List ℕ → D → Type 0) (stops : Se
 
   -- ---- some requests
 
-  -- the next request is answered, or none is whole, or it ended the dialogue; with the output so
-  -- far
-  abbrev pub AnswersNext : Result Bool Served → (before : D) (old new : List ℕ) (after : D) → Type 0
-  AnswersNext (Ok true) before old new after = (bytes : List ℕ) × says before bytes after × (new ≡ old ++ bytes)
-  AnswersNext (Ok false) before old new after = waits after × hears before [] after × (new ≡ old)
-  AnswersNext (Err end) before old new after = (bytes : List ℕ) × stops end before bytes after × (new ≡ old ++ bytes)
-
   -- some requests are answered, all whole ones if no more are left; or one ended the dialogue
   abbrev pub AnswersPart : Result Bool Served → (before : D) (output : List ℕ) (after : D) → Type 0
   AnswersPart (Ok more) before output after = Talks hears says before [] output after × (more ≡ false → waits after)

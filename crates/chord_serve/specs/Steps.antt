@@ -63,8 +63,3 @@ module _ {A : Type 0} (answers : A → Question → Asked → A → Type 0) wher
   Begins (Ok None) s a r old new s' a' = (bytes : List ℕ) × Step s a r bytes s' a' × (new ≡ old ++ bytes)
   Begins (Ok (Some answer)) s a r old new s' a' = IsAsked s a r answer s' a' × (new ≡ old)
   Begins (Err refused) s a r old new s' a' = (new ≡ old) × MayAsk (next_question s r) a a'
-
-  -- a step whose bytes are added to the output; none are if memory ran out
-  abbrev pub Deals : Result (Unit {0}) AllocError → SessionState → A → WireRequest → List ℕ → List ℕ → SessionState → A → Type 0
-  Deals (Ok done) s a r old new s' a' = (bytes : List ℕ) × Step s a r bytes s' a' × (new ≡ old ++ bytes)
-  Deals (Err refused) s a r old new s' a' = (new ≡ old) × MayAsk (next_question s r) a a'

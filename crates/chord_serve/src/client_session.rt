@@ -4,7 +4,7 @@ ghost use Rattle.chord_wire.specs.Spelling.{IsWireRequest};
 ghost use Rattle.chord_session.specs.Session.{first_state, last_number, bytes_held};
 ghost use Rattle.chord_serve.specs.Output.{after_answer, frame_of};
 ghost use Rattle.chord_serve.specs.Question.{IsAnswer};
-ghost use Rattle.chord_serve.specs.Steps.{Begins, Deals, IsKept};
+ghost use Rattle.chord_serve.specs.Steps.{Begins, IsKept};
 ghost use Rattle.chord_serve.specs.Writes.{Joins};
 ghost use Rattle.chord_serve.specs.declared.asker.Asked.TheVariants.{Memory};
 
@@ -87,24 +87,6 @@ impl<A> ClientSession<A> {
 }
 
 impl<A: Asker> ClientSession<A> {
-    /// Answers a request into the output.
-    pub(crate) fn answer(
-        &mut self,
-        alloc: Global,
-        due: &mut Due,
-        wire: WireRequest,
-    ) -> Result<(), AllocError>
-        requires { IsWireRequest wire }
-        ensures deals { Deals A.answers result self.old.numbers self.old.asker wire due.old due.new self.new.numbers self.new.asker }
-        ensures version { self.new.version ≡ Some wire.version }
-    {
-        let number = wire.number;
-        match self.begin(alloc, due, wire)? {
-            None => Ok(()),
-            Some(answer) => self.tell(alloc, due, number, answer),
-        }
-    }
-
     /// Lets a request in, and asks what it calls for. None if no question is to be asked: what is to
     /// be written for it is added to the output.
     pub(crate) fn begin(

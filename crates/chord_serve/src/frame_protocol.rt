@@ -1,5 +1,5 @@
 //! Frames, as the protocol of a link.
-ghost use Rattle.std.specs.Prelude.{◌≡◌, ◌++◌, ℕ, List, Ok, false, true, IfErr};
+ghost use Rattle.std.specs.Prelude.{◌≡◌, ◌++◌, ℕ, List, length, Ok, false, true, IfErr};
 ghost use Rattle.std.specs.Option.{ForSome};
 ghost use Rattle.chord_wire.specs.Spelling.{IsWireRequest};
 ghost use Rattle.chord_serve.specs.Ends.{IsStop};
@@ -10,11 +10,11 @@ ghost use Rattle.chord_serve.specs.declared.link.stage.Step.TheVariants.{Later};
 
 use crate::asker::{Asked, Asker};
 use crate::client_session::ClientSession;
-use crate::connection::{BAD_VERSION, OUT_OF_PLACE, close, is_other, refuse};
 use crate::due::Due;
 use crate::link::protocol::Protocol;
 use crate::link::stage::Step;
 use crate::parted::Parted;
+use crate::refusing::{BAD_VERSION, OUT_OF_PLACE, close, is_other, refuse};
 use crate::served::Served;
 use chord_wire::{FaultCode, SessionFrame, SessionFrames, WireRequest};
 use std::alloc::{AllocError, Global};
@@ -90,6 +90,7 @@ impl<A: Asker> FrameProtocol<A> {
         requires idle { FrameIdles self.old }
         ensures next { (before : _) → FrameAsked A.answers before number answer self.old
             → FrameSteps A.answers result before due.old due.new self.new }
+        ensures frames { self.new.frames ≡ self.old.frames }
         ensures grows { (bytes : List ℕ) × (due.new ≡ due.old ++ bytes) }
         ensures stop { IfErr result IsStop }
         ensures patient { result ≡ Ok Later → may_wait ≡ true }
@@ -123,6 +124,7 @@ impl<A: Asker> FrameProtocol<A> {
         ensures next { (before : _) → TakesRequest before wire self.old
             → before.client ≡ self.old.client
             → FrameSteps A.answers result before due.old due.new self.new }
+        ensures frames { self.new.frames ≡ self.old.frames }
         ensures grows { (bytes : List ℕ) × (due.new ≡ due.old ++ bytes) }
         ensures stop { IfErr result IsStop }
         ensures patient { result ≡ Ok Later → may_wait ≡ true }
@@ -158,6 +160,8 @@ impl<A: Asker> Protocol for FrameProtocol<A> {
     ghost begun = { FrameBegun A.answers };
 
     ghost between = { is_between };
+
+    ghost unread = { λ c. length c.frames };
 
     fn is_between(&self) -> bool {
         self.frames.left() == 0

@@ -1,6 +1,6 @@
 //! What tests of connections share: askers over a plain map, devices that move few bytes in a call
-//! and fail after some calls, or that fail after some bytes, and clients over loopback, with lists of
-//! what they do.
+//! and fail after some calls, or that fail after some bytes, the first frame of a connection, and
+//! clients over loopback, with lists of what they do.
 #![tactic(auto)]
 
 mod acts;
@@ -8,6 +8,7 @@ mod askers;
 mod clients;
 mod cut;
 mod devices;
+mod opening;
 
 pub use acts::{Act, Acts, Addresses, Answer, Ask, NOTHING, Script, do_acts, do_acts_at};
 pub use askers::{MapAsker, added, asked_of, note};
@@ -16,3 +17,4 @@ pub use clients::{
 };
 pub use cut::Cut;
 pub use devices::{FREE, Limited, Limits};
+pub use opening::greeted;

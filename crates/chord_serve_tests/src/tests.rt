@@ -2,7 +2,7 @@
 
 mod askers;
 mod client_sessions;
-mod conversing;
+mod echoes;
 mod faults;
 mod going_on;
 mod greetings;

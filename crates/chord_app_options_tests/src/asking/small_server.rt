@@ -1,10 +1,10 @@
 //! A server of sessions over loopback, one connection after another.
 
 use chord_serve::{
-    ClientSession, KeptSessions, Parted, ReadSize, greet, serve_session, tell_no_session,
+    ClientSession, FrameProtocol, KeptSessions, Parted, ReadSize, drive, tell_no_session,
     tell_opened, tell_session_known,
 };
-use chord_serve_testkit::{Cut, MapAsker};
+use chord_serve_testkit::{Cut, MapAsker, greeted};
 use chord_wire::{Opening, SessionFrames, Token};
 use std::alloc::Global;
 use std::io::{self, Read, Write};
@@ -79,7 +79,7 @@ impl SmallServer {
 
     fn serve<R: Read, W: Write>(&mut self, reader: &mut R, writer: &mut W) {
         let mut frames = SessionFrames::new(self.alloc);
-        let Ok(Some(opening)) = greet(reader, &mut frames, 1000) else {
+        let Some(opening) = greeted(reader, &mut frames, 1000) else {
             drop(frames);
             return;
         };
@@ -92,16 +92,10 @@ impl SmallServer {
             self.part(opening.token, Parted::Kept(client));
             return;
         }
-        let (_, left) = serve_session(
-            self.alloc,
-            reader,
-            writer,
-            frames,
-            client,
-            ReadSize::Small,
-            1_000_000,
-        );
-        self.part(opening.token, left);
+        let mut protocol = FrameProtocol::new(frames, client, true);
+        let size = ReadSize::Small;
+        let _ = drive(self.alloc, &mut protocol, reader, writer, size, 1_000_000);
+        self.part(opening.token, protocol.into_parted());
     }
 
     fn visit(&mut self, stream: &TcpStream, visit: Visit<'_>) {

@@ -1,7 +1,7 @@
-//! Connections over loopback: how they are made ready, told not to sleep, closed slowly, and ended.
+//! Connections over loopback: how they are made ready, closed slowly, and ended.
 
 use crate::checks::check;
-use chord_app_sockets::{Clients, Pollable, close_slowly, prepare};
+use chord_app_sockets::{Clients, close_slowly, prepare};
 use std::alloc::Global;
 use std::io::{self, ErrorKind, Read, Write};
 use std::net::{Net, TcpListener, TcpStream};
@@ -69,69 +69,6 @@ fn reads_and_writes_give_up(rt: HostRuntime) {
     check!(&rt;
         seen == Some(limited),
         "a read gives up after a tenth of a second, a write after all of them"
-    );
-}
-
-/// What two reads give that begin before a byte is there. The first is not to sleep.
-#[derive(Clone, Copy, Debug, PartialEq, Eq)]
-struct TwoReads {
-    not_to_sleep: Result<usize, ErrorKind>,
-    to_sleep: Result<usize, ErrorKind>,
-}
-
-/// Reads once without sleeping, lets the client know, and reads once more.
-fn read_twice<R: Read + Pollable>(reader: &mut R, has_read: &AtomicBool) -> io::Result<TwoReads> {
-    reader.set_nonblocking(true)?;
-    let not_to_sleep = read_once(reader);
-    has_read.store(true, Ordering::SeqCst);
-    reader.set_nonblocking(false)?;
-    let to_sleep = read_once(reader);
-    Ok(TwoReads {
-        not_to_sleep,
-        to_sleep,
-    })
-}
-
-/// Sends a byte for each read, a while after the first one was done. If that is not done within 5
-/// seconds the bytes are sent all the same, so that the test ends.
-fn send_late<R: Clock>(rt: &R, client: &mut TcpStream, has_read: &AtomicBool) -> io::Result<()> {
-    for _ in 0..500u64 {
-        if has_read.load(Ordering::SeqCst) {
-            break;
-        }
-        thread::sleep(rt, Duration::from_millis(10));
-    }
-    thread::sleep(rt, Duration::from_millis(50));
-    client.write_all(b"xy")
-}
-
-/// What the reads of a connection give, whose client sends late.
-fn two_reads<R: Threads + Clock + Net<Listener = TcpListener, Stream = TcpStream> + Sync>(
-    rt: &R,
-) -> io::Result<TwoReads> {
-    let Ends { mut client, server } = connect(rt)?;
-    let has_read = AtomicBool::new(false);
-    let (reads, sent) = thread::join(
-        rt,
-        || read_twice(&mut &server, &has_read),
-        || send_late(rt, &mut client, &has_read),
-    );
-    drop(server);
-    drop(client);
-    sent?;
-    reads
-}
-
-#[test]
-fn a_stream_is_told_not_to_sleep(rt: HostRuntime) {
-    let wanted = TwoReads {
-        not_to_sleep: Err(ErrorKind::WouldBlock),
-        to_sleep: Ok(1),
-    };
-    let seen = two_reads(&rt).map_err(|error| error.kind());
-    assert!(rt;
-        seen == Ok(wanted),
-        "a read gives up at once, and then waits for its byte: {seen:?}"
     );
 }
 

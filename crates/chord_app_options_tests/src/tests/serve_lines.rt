@@ -292,14 +292,14 @@ fn the_operator_of_serve(rt: HostRuntime) {
     );
 }
 
-/// A server that stays has the plan's numbers of nodes and callers, or those of its line, each from
-/// 1 to 4,096.
+/// A server that stays has the plan's numbers of nodes and callers, or those of its line, at most
+/// 4,096 nodes and 16,384 callers.
 const SIZES: &[(&str, LineOfP)] = &[
     (
-        "chord serve --plan p --port 7 --stay --slots 4096 --callers 4096",
+        "chord serve --plan p --port 7 --stay --slots 4096 --callers 16384",
         LineOfP {
             slots: Some(4_096),
-            callers: Some(4_096),
+            callers: Some(16_384),
             ..AT_7
         },
     ),
@@ -330,7 +330,7 @@ fn the_size_of_serve(rt: HostRuntime) {
             "chord serve --plan p --port 7 --stay --slots 0",
             "chord serve --plan p --port 7 --stay --slots 4097",
             "chord serve --plan p --port 7 --stay --callers 0",
-            "chord serve --plan p --port 7 --stay --callers 4097",
+            "chord serve --plan p --port 7 --stay --callers 16385",
         ],
     );
 }
@@ -351,7 +351,7 @@ pub const SERVE_HELP: &str = concat!(
     "      --keep <SECONDS>   With --stay: how long a session without a connection is kept, 0 to 86400, else 600\n",
     "      --operator <N>     With --stay: an operator's port on 127.0.0.1, 1 to 65535, or 0 for any that is free\n",
     "      --slots <N>        With --stay: how many nodes there may ever be, 1 to 4096, else the plan's\n",
-    "      --callers <N>      With --stay: how many callers there may be, 1 to 4096, else the plan's\n",
+    "      --callers <N>      With --stay: how many callers there may be, 1 to 16384, else the plan's\n",
     "  -h, --help             Print help\n",
 );
 

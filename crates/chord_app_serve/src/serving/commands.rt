@@ -1,9 +1,11 @@
 //! The two forms of the command `serve`.
-ghost use Rattle.std.specs.Prelude.{◌≡◌, vec_len};
+ghost use Rattle.std.specs.Prelude.{◌≡◌, IfOk, vec_len};
+ghost use Rattle.chord_app_serve.specs.Whole.{StandsWhole};
 
 use crate::plan_run::ring_parts_of;
 use crate::serving::request_tally::RequestTally;
 use crate::serving::server::Serving;
+use crate::serving::whole_ring::WholeRing;
 use chord_app_sockets::{ClientSeconds, Host, Lines, ServerSetup, Stop, Until};
 use chord_app_text::Finish;
 use chord_live_ring::RingParts;
@@ -45,7 +47,9 @@ fn serve_until<S: EntryStore + Send, R: Host, L: Log + Sync, W: Write + Send + D
     until: Until<'_>,
     lines: Lines<W>,
     parts: RingParts,
-) -> Result<(), Finish> {
+) -> Result<WholeRing, Finish>
+    ensures { IfOk result (λ ring. StandsWhole ring) }
+{
     let requests = match RequestTally::new(setup.alloc) {
         Ok(requests) => requests,
         Err(_) => {
@@ -64,7 +68,10 @@ fn serve_until<S: EntryStore + Send, R: Host, L: Log + Sync, W: Write + Send + D
         requests: &requests,
     };
     match serving.serve_named::<Brand>(parts) {
-        Ok(()) => lines.finish(),
+        Ok(ring) => {
+            lines.finish()?;
+            Ok(ring)
+        }
         Err(finish) => {
             drop(lines);
             Err(finish)
@@ -80,7 +87,9 @@ pub fn serve<S: EntryStore + Send, R: Host, L: Log + Sync, W: Write + Send + Dro
     stores: Vec<S>,
     connections: usize,
     writer: W,
-) -> Result<(), Finish> {
+) -> Result<WholeRing, Finish>
+    ensures { IfOk result (λ ring. StandsWhole ring) }
+{
     let parts = ring_parts_of(setup.alloc, setup.settings)?;
     let lines = Lines::by_number(setup.alloc, writer, connections);
     let until = Until::Connections(connections);
@@ -129,7 +138,9 @@ pub fn stay<
     seconds: ClientSeconds,
     input: I,
     writer: W,
-) -> Result<(), Finish> {
+) -> Result<WholeRing, Finish>
+    ensures { IfOk result (λ ring. StandsWhole ring) }
+{
     let parts = ring_parts_of(setup.alloc, setup.settings)?;
     let stop = match stop_at_end(rt, setup, input) {
         Ok(stop) => stop,

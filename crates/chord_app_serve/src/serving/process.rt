@@ -8,6 +8,9 @@ use std::os::unix::fs::FileExt;
 /// How many bytes a page of memory has.
 const PAGE_BYTES: u64 = 4_096;
 
+/// How the line of `limits` begins that tells how many files a process may have open at once.
+const OPEN_FILES: &str = "Max open files";
+
 /// How many milliseconds a tick of the processor's time has.
 const TICK_MILLISECONDS: u64 = 10;
 
@@ -38,6 +41,15 @@ pub fn processor_ms_of(stat: &str) -> Option<u64> {
     )
 }
 
+/// How many files a process may have open at once, by its `limits`: the first number of their line.
+/// None if there is no limit.
+pub fn open_files_of(limits: &str) -> Option<u64> {
+    let numbers = limits
+        .lines()
+        .find_map(|line| line.strip_prefix(OPEN_FILES))?;
+    numbers.split_whitespace().next()?.parse::<u64>().ok()
+}
+
 /// What a file has now, if it is text.
 fn text_in<'b>(file: &File, bytes: &'b mut [u8; FILE_BYTES]) -> Option<&'b str> {
     let count = file.read_at(bytes, 0).ok()?;
@@ -54,6 +66,12 @@ fn resident(statm: &File) -> Option<u64> {
 fn processor_ms(stat: &File) -> Option<u64> {
     let mut bytes = [0u8; FILE_BYTES];
     processor_ms_of(text_in(stat, &mut bytes)?)
+}
+
+/// How many files the process may have open at once, by this `limits`.
+pub fn open_files(limits: &File) -> Option<u64> {
+    let mut bytes = [0u8; FILE_BYTES];
+    open_files_of(text_in(limits, &mut bytes)?)
 }
 
 /// What the system tells of the process now.

@@ -1,99 +1,95 @@
 //! The server of both forms of `serve`.
 ghost use Rattle.std.specs.Prelude.{◌≡◌, IfOk};
-ghost use Rattle.chord_table.specs.Shown.{WholeShown};
+ghost use Rattle.chord_app_serve.specs.Whole.{StandsWhole};
 
-use crate::serving::asker::RingAsker;
 use crate::serving::caller_pool::CallerPool;
 use crate::serving::commands::ServerStores;
 use crate::serving::desk::Desk;
+use crate::serving::frames::{FramesHouse, RingFrames};
 use crate::serving::idle::IdleCaller;
 use crate::serving::info::Told;
+use crate::serving::redis::{RedisHouse, RingCommands};
 use crate::serving::request_tally::RequestTally;
+use crate::serving::reserved::Reserved;
 use crate::serving::service::{Service, node_of};
 use crate::serving::sessions::Sessions;
 use crate::serving::tally::Tally;
-use chord_app_loop::{Crowd, Lending, Loops, Visit, serve_lending};
+use crate::serving::trying::TryingAsker;
+use crate::serving::whole_ring::WholeRing;
+use chord_app_loop::{Guest, Loops, Owner, Rules, Socket};
 use chord_app_sockets::{
-    Clients, Door, Doors, Ended, Host, Lines, OncePerSecond, PatientReader, PatientWriter, Pollers,
-    PollingReader, Protocol, ServerSetup, Until, close_slowly, prepare,
+    Clients, Door, Doors, Ended, Host, Lines, OncePerSecond, Protocol, ServerSetup, Until,
 };
 use chord_app_text::Finish;
 use chord_live_ring::{ReturnedCaller, Ring, RingParts};
-use chord_resp::put_error;
-use chord_resp_serve::ServerInfo;
-use chord_serve::{Due, Served, tell_callers_spent};
+use chord_serve::{Protocol as ProtocolOfLink, Served, Stream};
 use chord_store::EntryStore;
-use chord_table::{Naming, Registrar};
-use log::Log;
+use chord_table::Naming;
+use log::{Log, info, warn};
 use std::alloc::Global;
 use std::io::{self, Write};
-use std::net::TcpStream;
-use std::sync::Arc;
+use std::net::{Net, TcpStream};
+use std::os::fd::AsRawFd;
 use std::sync::atomic::{AtomicU64, Ordering};
+use std::sync::{Arc, Wait};
 use std::thread;
-use std::thread::{Scope, Threads};
-use std::time::Duration;
+use std::thread::Scope;
+use std::time::{Clock, Duration};
 
-/// The connection of a client.
-#[derive(Clone, Copy)]
-pub struct Guest<'a> {
-    pub number: u64,
-    /// The node at which it asks.
-    pub via: u64,
-    pub protocol: Protocol,
-    pub stream: &'a TcpStream,
-}
+/// For how many milliseconds a door rests where a connection could not be accepted.
+const REST_MILLISECONDS: u64 = 10;
 
 /// What all connections of a server share.
 #[derive(Drop)]
 pub struct Server<'s, 'r, J: Naming, S: EntryStore, R, L, W> {
-    pub service: &'s Service<'r, J, S, R, L>,
+    pub service: &'s Service<'r, J, S, R>,
+    /// Where it logs how connections end.
+    pub notes: &'s L,
     pub pool: CallerPool<'r, J, S>,
+    pub reserved: Reserved<'r, J, S>,
     pub sessions: Sessions<'r, J, S, R>,
     pub tally: Tally,
     pub clients: Clients,
-    pub pollers: Pollers,
     pub lines: &'s Lines<W>,
     pub until: Until<'s>,
     /// How many connections of clients got a number, at all doors.
     numbers: AtomicU64,
     pub desk: Desk<'s, S>,
-    warnings: OncePerSecond,
+    /// Of connections that wrote what a web page can make a browser write.
+    foreign_warnings: OncePerSecond,
+    /// Of connections that could not be accepted.
+    accept_warnings: OncePerSecond,
 }
 
-/// How a server lends connections to event loops.
-type RingLending<'a, 'r, J, S, R> = Lending<'a, RingAsker<'r, J, S, R>, Told<'a, J, S, R>>;
+/// The event loops of clients that speak in frames.
+type FramesLoops<'c, 'r, J, S, R> = Loops<RingFrames<'r, J, S, R>, Socket<'c>>;
 
-/// How many connections a server lends: none if each is read only so often.
-fn crowd_of(rt: &impl Threads, until: Until<'_>) -> Crowd {
-    match until {
-        Until::Connections(_) => Crowd::new(u64::MAX),
-        Until::Stopped { .. } => Crowd::for_processors(rt),
+/// Those of clients that speak Redis's protocol.
+type RedisLoops<'c, 'r, J, S, R> = Loops<RingCommands<'c, 'r, J, S, R>, Socket<'c>>;
+
+impl<'s, 'r, J: Naming, S: EntryStore, R: Wait + Clock + Net, L: Log, W: Write> Server<
+    's,
+    'r,
+    J,
+    S,
+    R,
+    L,
+    W,
+> {
+    /// Warns that a connection was ended since it wrote what a web page can make a browser write.
+    fn warn_of_foreign(&self, number: u64) {
+        warn!(self.notes; target: "chord", "connection {number} sent HTTP or a byte 0 to the port of Redis's protocol: a web page may have tried to reach the store");
     }
-}
 
-/// Tells a client that no caller is left for its connection, in the words of its protocol.
-fn tell_spent<W: Write>(alloc: Global, protocol: Protocol, writer: &mut W) -> io::Result<()> {
-    match protocol {
-        Protocol::Frames => tell_callers_spent(alloc, writer),
-        Protocol::Redis => {
-            let mut due = Due::new(alloc);
-            put_error(&mut due.bytes, b"ERR max number of clients reached")?;
-            due.write_to(writer)
-        }
-    }
-}
-
-impl<'s, 'r, J: Naming, S: EntryStore, R: Host, L: Log, W: Write> Server<'s, 'r, J, S, R, L, W> {
     /// Notes and logs how a connection ended, and warns of one that may be a web page's, at most once
     /// a second. If writing fails, the server stops.
-    fn tell(&self, number: u64, ended: &Ended) {
+    pub fn tell(&self, number: u64, ended: &Ended) {
         let rt = self.service.rt;
-        self.service.log_end(number, ended);
+        info!(self.notes; target: "chord", "connection {number} {ended}");
         if *ended == Ended::Served(Served::Foreign)
-            && self.warnings.passes(self.desk.uptime_ms(rt))
+            && self.foreign_warnings.passes(self.desk.uptime_ms(rt))
         {
-            self.service.warn_of_foreign(number);
+            self.warn_of_foreign(number);
         }
         self.tally.end(self.service.rt, ended);
         if !self.lines.tell(self.service.rt, number, ended) {
@@ -101,17 +97,33 @@ impl<'s, 'r, J: Naming, S: EntryStore, R: Host, L: Log, W: Write> Server<'s, 'r,
         }
     }
 
-    /// Tells a client that no caller is left, if that is why its connection ends so.
-    pub fn refuse(&self, guest: Guest<'_>, none: Ended) -> Ended {
-        if none == Ended::CallersSpent {
-            let mut writer = PatientWriter::new(self.clients.counted(guest.stream));
-            let _ = tell_spent(self.service.alloc, guest.protocol, &mut writer).is_ok();
+    /// How event loops serve connections. A request is tried for as long as a blocking call of it
+    /// would take.
+    fn rules(&self) -> Rules {
+        let ring = self.service.ring;
+        let wait = ring.wait_of_try();
+        let tries = u32::try_from(ring.tries()).unwrap_or(u32::MAX);
+        Rules {
+            read_size: self.until.read_size(),
+            turns: self.until.turns(),
+            idle: self.until.idle(),
+            longest_pause: wait,
+            patience: wait.saturating_mul(tries),
         }
-        none
+    }
+
+    /// The node at which the connection of this number asks.
+    pub fn via(&self, number: u64) -> u64 {
+        node_of(number, self.service.ring.node_count())
+    }
+
+    /// A stream, for a link or to be read. None if memory ran out.
+    pub fn socket_of(&self, stream: &Arc<TcpStream>) -> Option<Socket<'_>> {
+        Some(Socket::new(Arc::try_clone(stream).ok()?, &self.clients))
     }
 
     /// A caller of the pool, or else that of a session without a connection, which is dropped.
-    pub fn caller_for(&self) -> Result<IdleCaller<'r, J, S>, Ended> {
+    fn caller_for(&self) -> Result<IdleCaller<'r, J, S>, Ended> {
         let rt = self.service.rt;
         let none = match self.pool.take(rt) {
             Ok(idle) => return Ok(idle),
@@ -126,91 +138,74 @@ impl<'s, 'r, J: Naming, S: EntryStore, R: Host, L: Log, W: Write> Server<'s, 'r,
         self.pool.take(rt)
     }
 
-    /// Serves a client that speaks Redis's protocol, and lends its connection while it is busy.
-    fn serve_redis(
-        &self,
-        lending: &RingLending<'_, 'r, J, S, R>,
-        guest: Guest<'_>,
-        stream: &Arc<TcpStream>,
-    ) -> Ended {
-        let service = self.service;
-        let idle = match self.caller_for() {
-            Ok(idle) => idle,
-            Err(none) => return self.refuse(guest, none),
-        };
-        let counted = self.clients.counted(guest.stream);
-        let polling = PollingReader::new(counted, &self.pollers);
-        let mut reader = PatientReader::new(polling, &self.clients, self.until.idle());
-        let mut writer = PatientWriter::new(counted);
-        let server = ServerInfo {
-            number: guest.number,
-            source: lending.source(),
-        };
-        let waiting = service.meet_redis(idle, guest.via, server);
-        let visit = Visit {
-            number: guest.number,
-            stream,
-            size: self.until.read_size(),
-            turns: self.until.turns(),
-        };
-        let (rt, alloc) = (service.rt, service.alloc);
-        let (served, asker) = serve_lending(
-            rt,
-            alloc,
-            lending,
-            waiting,
-            visit,
-            &mut reader,
-            &mut writer,
-        );
-        match asker {
-            Some(asker) => self.pool.give_back(rt, asker.into_caller()),
-            None => self.pool.pause(),
-        }
-        Ended::by(served, reader.is_idle() || writer.is_idle())
-    }
-
-    /// Serves a client, or tells it that no caller is left.
-    fn serve_client(
-        &self,
-        lending: &RingLending<'_, 'r, J, S, R>,
-        number: u64,
-        protocol: Protocol,
-        stream: &Arc<TcpStream>,
-    ) -> Ended {
-        let guest = Guest {
-            number,
-            via: node_of(number, self.service.ring.node_count()),
-            protocol,
-            stream,
-        };
-        match protocol {
-            Protocol::Frames => self.serve_frames(guest),
-            Protocol::Redis => self.serve_redis(lending, guest, stream),
+    /// A caller for the connection of this number: the one that is reserved for it, or another.
+    pub fn caller_of(&self, number: u64) -> Result<IdleCaller<'r, J, S>, Ended> {
+        match self.reserved.take(self.service.rt, number) {
+            Some(idle) => Ok(idle),
+            None => self.caller_for(),
         }
     }
 
-    /// Serves a connection to its end. Notes how it ended before closing it.
-    fn run_client(
-        &self,
-        lending: &RingLending<'_, 'r, J, S, R>,
-        number: u64,
-        protocol: Protocol,
-        stream: Arc<TcpStream>,
-    ) {
-        prepare(&stream, self.until.idle());
-        let ended = self.serve_client(lending, number, protocol, &stream);
-        self.tell(number, &ended);
-        if ended.is_closed_slowly() {
-            close_slowly(self.service.rt, &stream);
+    /// Reserves a caller for a connection that begins, if each connection has one of its own. Says
+    /// how the connection ends if it is late and no caller can be had.
+    pub fn reserve(&self, number: u64, is_late: bool) -> Result<(), Ended> {
+        let rt = self.service.rt;
+        if self.until.keeps_callers() && !is_late || self.reserved.has(rt, number) {
+            return Ok(());
         }
-        self.clients.forget(self.service.rt, number);
-        drop(stream);
+        match self.pool.take(rt) {
+            Ok(idle) if self.until.keeps_callers() => {
+                self.pool.give_back(rt, idle.into_caller());
+                Ok(())
+            }
+            Ok(idle) => match self.reserved.keep(rt, number, idle) {
+                Ok(()) => Ok(()),
+                Err(idle) => {
+                    self.pool.give_back(rt, idle.into_caller());
+                    Err(Ended::Served(Served::Memory))
+                }
+            },
+            Err(none) if is_late && !self.sessions.can_drop(rt, self.desk.uptime_ms(rt)) => {
+                Err(none)
+            }
+            Err(_) => Ok(()),
+        }
     }
 
-    /// Answers lent connections.
-    fn run_event_loop(&self, lending: &RingLending<'_, 'r, J, S, R>, number: u64) {
-        lending.run(self.service.rt, self.service.alloc, &self.clients, number);
+    /// Takes the caller back that is reserved for this connection, if one is.
+    pub fn release(&self, number: u64) {
+        let rt = self.service.rt;
+        if let Some(idle) = self.reserved.take(rt, number) {
+            self.pool.give_back(rt, idle.into_caller());
+        }
+    }
+
+    /// Takes the caller of a connection back.
+    pub fn take_back(&self, asker: TryingAsker<'r, J, S, R>) {
+        self.pool.give_back(self.service.rt, asker.into_caller());
+    }
+
+    /// Drops the oldest sessions without a connection, while their answers take too much memory.
+    pub fn drop_surplus(&self) {
+        let rt = self.service.rt;
+        for _ in 0..u64::MAX {
+            let Some(asker) = self.sessions.drop_surplus(rt) else {
+                return;
+            };
+            self.tally.drop_session(rt);
+            self.pool.add(rt, asker.into_caller());
+        }
+    }
+
+    /// Drops all sessions without a connection, and takes their callers back.
+    fn drop_sessions(&self) {
+        let rt = self.service.rt;
+        for _ in 0..u64::MAX {
+            let Some(asker) = self.sessions.drop_first(rt) else {
+                return;
+            };
+            self.pool.add(rt, asker.into_caller());
+        }
     }
 
     /// Whether the server takes one more connection.
@@ -230,196 +225,226 @@ impl<'s, 'r, J: Naming, S: EntryStore, R: Host, L: Log, W: Write> Server<'s, 'r,
             None
         }
     }
-}
 
-impl<
-    't,
-    'a: 't,
-    's: 't,
-    'r: 's,
-    J: Naming + Send + Sync + 't,
-    S: EntryStore + Send + 't,
-    R: Host,
-    L: Log + Sync + 't,
-    W: Write + Send + 't,
-> Server<'s, 'r, J, S, R, L, W> {
-    /// Serves a connection on a thread of its own. Says false if there was no memory for that.
-    fn run_beside<E: 't>(
-        &'t self,
-        scope: &'t Scope<'t, E>,
-        lending: &'t RingLending<'a, 'r, J, S, R>,
-        number: u64,
-        protocol: Protocol,
-        stream: TcpStream,
-    ) -> bool {
-        let Ok(stream) = Arc::new(self.service.alloc, stream) else {
-            return false;
-        };
-        if self.clients.add(self.service.rt, number, &stream).is_err() {
-            drop(stream);
-            return false;
-        }
-        scope
-            .spawn(move || self.run_client(lending, number, protocol, stream))
-            .is_ok()
+    /// A connection that begins. None if memory ran out.
+    pub fn guest(&self, number: u64, stream: TcpStream) -> Option<Guest<Socket<'_>>> {
+        let _ = stream.set_nodelay(true).is_ok();
+        let _ = stream.set_nonblocking(true).is_ok();
+        let alloc = self.service.alloc;
+        let stream = Arc::new(alloc, stream).ok()?;
+        self.clients.add(self.service.rt, number, &stream).ok()?;
+        let socket = self.socket_of(&stream)?;
+        Some(Guest::new(alloc, number, stream, socket))
     }
 
-    /// Serves an accepted connection, or notes that it could not be accepted, or ends it if there
-    /// is no memory for its thread.
-    fn meet<E: 't>(
-        &'t self,
-        scope: &'t Scope<'t, E>,
-        lending: &'t RingLending<'a, 'r, J, S, R>,
+    /// Gives an accepted connection to event loops, or notes that it could not be accepted, or ends
+    /// it if there is no memory for it.
+    fn admit<'c, P: ProtocolOfLink + Drop>(
+        &'c self,
+        loops: &Loops<P, Socket<'c>>,
         number: u64,
-        protocol: Protocol,
         accepted: io::Result<TcpStream>,
     ) {
         match accepted {
-            Ok(stream) => {
-                if !self.run_beside(scope, lending, number, protocol, stream) {
+            Ok(stream) => match self.guest(number, stream) {
+                Some(guest) => loops.add(self.service.rt, guest),
+                None => {
                     self.tell(number, &Ended::Served(Served::Memory));
                     self.clients.forget(self.service.rt, number);
                 }
-            }
+            },
             Err(_) => {
                 self.tell(number, &Ended::NotAccepted);
-                thread::sleep(self.service.rt, Duration::from_millis(10));
+                thread::sleep(self.service.rt, Duration::from_millis(REST_MILLISECONDS));
             }
         }
     }
 
-    /// Accepts connections at a door, each on a thread of its own, as long as the server takes any.
-    fn accept<E: 't>(
-        &'t self,
-        scope: &'t Scope<'t, E>,
-        lending: &'t RingLending<'a, 'r, J, S, R>,
-        door: Door<'t>,
+    /// Lets a door rest where a connection could not be accepted, as for want of descriptors. Warns
+    /// at most once a second.
+    fn rest(&self) {
+        let rt = self.service.rt;
+        if self.accept_warnings.passes(self.desk.uptime_ms(rt)) {
+            warn!(self.notes; target: "chord", "a connection could not be accepted: the process may have too few files (ulimit -n)");
+        }
+        thread::sleep(rt, Duration::from_millis(REST_MILLISECONDS));
+    }
+
+    /// Accepts connections at a door, as long as the server takes any. A server that stays tries
+    /// again where that fails; of one that serves a number of them it is one that ended.
+    fn accept<'c, P: ProtocolOfLink + Drop>(
+        &'c self,
+        loops: &Loops<P, Socket<'c>>,
+        door: Door<'_>,
     ) {
         for _ in 0..u64::MAX {
             if !self.takes_more() {
                 return;
             }
             let accepted = door.listener.accept().map(|(stream, _)| stream);
+            if accepted.is_err() && self.until.keeps_callers() {
+                self.rest();
+                continue;
+            }
             let Some(number) = self.next_number() else {
                 drop(accepted);
                 return;
             };
-            self.meet(scope, lending, number, door.protocol, accepted);
+            self.admit(loops, number, accepted);
         }
     }
+}
 
+/// Starts event loops, each in a thread of its own.
+fn start<
+    't,
+    E: 't,
+    P: ProtocolOfLink + Drop + Send + 't,
+    S: Stream + AsRawFd + Drop + Send + 't,
+    O: Owner<P, S> + Sync + 't,
+    R: Host,
+>(
+    rt: &'t R,
+    alloc: Global,
+    scope: &'t Scope<'t, E>,
+    loops: &'t Loops<P, S>,
+    owner: &'t O,
+) -> Result<(), Finish> {
+    for number in 0..loops.count() {
+        if scope
+            .spawn(move || loops.run(rt, alloc, owner, number))
+            .is_err()
+        {
+            return Err(Finish::OutOfMemory);
+        }
+    }
+    Ok(())
+}
+
+impl<
+    't,
+    'c: 't,
+    's: 'c,
+    'r: 's,
+    J: Naming + Send + Sync + 'r,
+    S: EntryStore + Send + 'r,
+    R: Host,
+    L: Log + Sync + 's,
+    W: Write + Send + 's,
+> Server<'s, 'r, J, S, R, L, W> {
     /// Accepts connections at the second door, and then wakes the first.
-    fn accept_second<E: 't>(
-        &'t self,
-        scope: &'t Scope<'t, E>,
-        lending: &'t RingLending<'a, 'r, J, S, R>,
-        doors: Doors<'t>,
-        door: Door<'t>,
+    fn accept_second(
+        &'c self,
+        redis: &RedisLoops<'c, 'r, J, S, R>,
+        doors: Doors<'_>,
+        door: Door<'_>,
     ) {
-        self.accept(scope, lending, door);
+        self.accept(redis, door);
         doors.first().wake(self.service.rt);
     }
 
     /// Accepts connections at each door. The one that gets the last connection wakes the other.
     fn accept_at<E: 't>(
-        &'t self,
+        &'c self,
         scope: &'t Scope<'t, E>,
-        lending: &'t RingLending<'a, 'r, J, S, R>,
+        frames: &'t FramesLoops<'c, 'r, J, S, R>,
+        redis: &'t RedisLoops<'c, 'r, J, S, R>,
         doors: Doors<'t>,
     ) -> Result<(), Finish> {
+        let first = doors.first();
         let Some(second) = doors.second() else {
-            self.accept(scope, lending, doors.first());
+            match first.protocol {
+                Protocol::Frames => self.accept(frames, first),
+                Protocol::Redis => self.accept(redis, first),
+            }
             return Ok(());
         };
-        let Ok(beside) = scope.spawn(move || self.accept_second(scope, lending, doors, second))
-        else {
+        let Ok(beside) = scope.spawn(move || self.accept_second(redis, doors, second)) else {
             return Err(Finish::OutOfMemory);
         };
-        self.accept(scope, lending, doors.first());
+        self.accept(frames, first);
         second.wake(self.service.rt);
         beside.join(self.service.rt);
         Ok(())
     }
 
-    /// Waits for the connections that are open, or ends them if the server was stopped. Then the
-    /// ring is stopped first, so that no connection waits for an answer that does not come.
-    fn end_clients(&self) {
-        match self.until {
-            Until::Connections(_) => self.clients.wait_for_all(self.service.rt),
-            Until::Stopped { .. } => {
-                self.service.ring.stop();
-                self.clients.end_all(self.service.rt);
-            }
-        }
-    }
-
     /// Starts the event loops.
-    fn start_event_loops<E: 't>(
-        &'t self,
+    fn start_loops<E: 't>(
+        &'c self,
         scope: &'t Scope<'t, E>,
-        lending: &'t RingLending<'a, 'r, J, S, R>,
+        frames: &'t FramesLoops<'c, 'r, J, S, R>,
+        frames_house: &'t FramesHouse<'c, 's, 'r, J, S, R, L, W>,
+        redis: &'t RedisLoops<'c, 'r, J, S, R>,
+        redis_house: &'t RedisHouse<'c, 's, 'r, J, S, R, L, W>,
     ) -> Result<(), Finish> {
-        for number in 0..lending.count() {
-            if scope
-                .spawn(move || self.run_event_loop(lending, number))
-                .is_err()
-            {
-                return Err(Finish::OutOfMemory);
-            }
-        }
-        Ok(())
+        let (rt, alloc) = (self.service.rt, self.service.alloc);
+        start(rt, alloc, scope, frames, frames_house)?;
+        start(rt, alloc, scope, redis, redis_house)
     }
 
     /// Starts the nodes, writes the addresses at which clients are served, and serves them.
     fn start_and_accept<E: 't>(
-        &'t self,
+        &'c self,
         setup: &'t ServerSetup<'t, L>,
         scope: &'t Scope<'t, E>,
-        lending: &'t RingLending<'a, 'r, J, S, R>,
+        frames: &'t FramesLoops<'c, 'r, J, S, R>,
+        redis: &'t RedisLoops<'c, 'r, J, S, R>,
         stores: Vec<S>,
     ) -> Result<(), Finish> {
-        self.service
+        let server: &'t Server<'s, 'r, J, S, R, L, W> = self;
+        server
+            .service
             .start(scope, setup.plan.nodes.as_slice(), stores)?;
-        self.start_event_loops(scope, lending)?;
-        self.lines.begin(self.service.rt, setup.doors)?;
-        self.start_operators(scope)?;
-        let accepted = self.accept_at(scope, lending, setup.doors);
-        self.end_clients();
-        self.clients.wait_for_all(self.service.rt);
-        accepted
+        server.lines.begin(server.service.rt, setup.doors)?;
+        server.start_operators(scope)?;
+        self.accept_at(scope, frames, redis, setup.doors)
+    }
+
+    /// Serves by these event loops, and then stops the ring. The handle starts the threads.
+    fn serve_by_loops(
+        &'c self,
+        starter: &R,
+        frames: &'t FramesLoops<'c, 'r, J, S, R>,
+        frames_house: &'t FramesHouse<'c, 's, 'r, J, S, R, L, W>,
+        redis: &'t RedisLoops<'c, 'r, J, S, R>,
+        redis_house: &'t RedisHouse<'c, 's, 'r, J, S, R, L, W>,
+        setup: &'t ServerSetup<'t, L>,
+        stores: Vec<S>,
+    ) -> Result<(), Finish> {
+        thread::scope(thread::scope_env(), starter, |scope| {
+            let ended = match self.start_loops(scope, frames, frames_house, redis, redis_house) {
+                Ok(()) => self.start_and_accept(setup, scope, frames, redis, stores),
+                Err(finish) => {
+                    drop(stores);
+                    Err(finish)
+                }
+            };
+            if let Until::Stopped { .. } = self.until {
+                self.service.ring.stop();
+                self.clients.tell_to_end();
+                frames.wake();
+                redis.wake();
+                self.clients.end_all(self.service.rt);
+            }
+            self.clients.wait_for_all(self.service.rt);
+            frames.end();
+            redis.end();
+            self.end_operators();
+            self.service.ring.stop();
+            ended
+        })
     }
 }
 
-/// Serves, and then stops the ring. The handle starts the threads.
-fn serve_ring<
-    't,
-    'a: 't,
-    's: 't,
-    'r: 's,
-    J: Naming + Send + Sync,
-    S: EntryStore + Send,
-    R: Host,
-    L: Log + Sync,
-    W: Write + Send,
->(
-    starter: &R,
-    server: &'t Server<'s, 'r, J, S, R, L, W>,
-    lending: &'t RingLending<'a, 'r, J, S, R>,
-    setup: &'t ServerSetup<'t, L>,
-    stores: Vec<S>,
-) -> Result<(), Finish> {
-    thread::scope(thread::scope_env(), starter, |scope| {
-        let ended = server.start_and_accept(setup, scope, lending, stores);
-        lending.end(starter);
-        server.end_operators();
-        server.service.ring.stop();
-        ended
-    })
+/// Lets event loops go, none of which runs.
+fn close<P: ProtocolOfLink + Drop, S: Stream + Drop>(loops: Loops<P, S>) {
+    drop(loops);
 }
 
-/// Serves beside event loops.
-fn serve_beside_loops<
-    's,
+/// Serves the connections of these owners, by event loops.
+fn serve_houses<
+    'c,
+    's: 'c,
     'r: 's,
     J: Naming + Send + Sync,
     S: EntryStore + Send,
@@ -427,22 +452,61 @@ fn serve_beside_loops<
     L: Log + Sync,
     W: Write + Send,
 >(
-    service: &Service<'r, J, S, R, L>,
-    server: &Server<'s, 'r, J, S, R, L, W>,
+    server: &'c Server<'s, 'r, J, S, R, L, W>,
+    frames_house: &FramesHouse<'c, 's, 'r, J, S, R, L, W>,
+    redis_house: &RedisHouse<'c, 's, 'r, J, S, R, L, W>,
     setup: &ServerSetup<'_, L>,
     stores: Vec<S>,
 ) -> Result<(), Finish> {
-    let crowd = crowd_of(service.rt, server.until);
-    let told = Told {
-        rt: service.rt,
-        ring: service.ring,
-        clients: &server.clients,
+    let (rt, alloc, rules) = (server.service.rt, server.service.alloc, server.rules());
+    let frames: FramesLoops<'c, 'r, J, S, R> = match Loops::for_processors(rt, alloc, rules) {
+        Ok(loops) => loops,
+        Err(_) => {
+            drop(stores);
+            return Err(Finish::OutOfMemory);
+        }
     };
-    let loops = Loops::for_processors(service.rt, service.alloc)?;
-    match Lending::new(service.alloc, &loops, &crowd, &told) {
-        Ok(lending) => serve_ring(service.rt, server, &lending, setup, stores),
-        Err(_) => Err(Finish::OutOfMemory),
-    }
+    let redis: RedisLoops<'c, 'r, J, S, R> = match Loops::for_processors(rt, alloc, rules) {
+        Ok(loops) => loops,
+        Err(_) => {
+            close(frames);
+            drop(stores);
+            return Err(Finish::OutOfMemory);
+        }
+    };
+    let served = server.serve_by_loops(
+        rt,
+        &frames,
+        frames_house,
+        &redis,
+        redis_house,
+        setup,
+        stores,
+    );
+    close(redis);
+    close(frames);
+    served
+}
+
+/// Serves clients of both protocols.
+fn serve_clients<
+    'c,
+    's: 'c,
+    'r: 's,
+    J: Naming + Send + Sync,
+    S: EntryStore + Send,
+    R: Host,
+    L: Log + Sync,
+    W: Write + Send,
+>(
+    server: &'c Server<'s, 'r, J, S, R, L, W>,
+    told: &'c Told<'c, J, S, R>,
+    setup: &ServerSetup<'_, L>,
+    stores: Vec<S>,
+) -> Result<(), Finish> {
+    let frames = FramesHouse { server };
+    let redis = RedisHouse { server, told };
+    serve_houses(server, &frames, &redis, setup, stores)
 }
 
 /// Ends the ring. One look at all its nodes and callers proves that they are a reachable world,
@@ -450,12 +514,13 @@ fn serve_beside_loops<
 fn conclude<J: Naming, S: EntryStore>(
     ring: Ring<J, S>,
     callers: Vec<ReturnedCaller<J>>,
-) -> Result<Registrar<J>, Finish>
-    ensures { IfOk result (λ seats. WholeShown seats) }
+) -> Result<WholeRing, Finish>
+    ensures { IfOk result (λ ring. StandsWhole ring) }
 {
+    let count = callers.len();
     let closed = ring.close_all(callers);
     if closed.is_whole {
-        Ok(closed.seats)
+        Ok(WholeRing { callers: count })
     } else {
         Err(Finish::OutOfMemory)
     }
@@ -487,24 +552,36 @@ impl<S: EntryStore + Send, R: Host, L: Log + Sync, W: Write + Send> Serving<'_, 
             lines,
             requests,
         } = self;
-        let service = Service::new(rt, ring, setup, requests);
+        let service = Service {
+            rt,
+            alloc: setup.alloc,
+            ring,
+            requests,
+        };
         let pool = CallerPool::new(setup.alloc, ring, until.keeps_callers())?;
         let ServerStores { nodes, spares } = stores;
         let desk = Desk::new(rt, setup, spares)?;
         let server = Server {
             service: &service,
+            notes: setup.notes,
             pool,
+            reserved: Reserved::new(setup.alloc),
             sessions: Sessions::new(setup.alloc, until.session_seconds()),
             tally: Tally::new(),
             clients: Clients::new(setup.alloc),
-            pollers: Pollers::for_processors(rt),
             lines,
             until,
             numbers: AtomicU64::new(0),
             desk,
-            warnings: OncePerSecond::new(),
+            foreign_warnings: OncePerSecond::new(),
+            accept_warnings: OncePerSecond::new(),
         };
-        let served = serve_beside_loops(&service, &server, setup, nodes);
+        let told = Told {
+            rt,
+            ring,
+            clients: &server.clients,
+        };
+        let served = serve_clients(&server, &told, setup, nodes);
         server.drop_sessions();
         let callers = server.pool.into_callers(setup.alloc);
         served?;
@@ -512,8 +589,9 @@ impl<S: EntryStore + Send, R: Host, L: Log + Sync, W: Write + Send> Serving<'_, 
     }
 
     /// Gives the ring its name, and serves. Then the ring ends by a look at the whole of it.
-    pub fn serve_named<J: Naming + Send + Sync>(self, parts: RingParts) -> Result<(), Finish>
+    pub fn serve_named<J: Naming + Send + Sync>(self, parts: RingParts) -> Result<WholeRing, Finish>
         requires { parts.name ≡ J.name }
+        ensures { IfOk result (λ ring. StandsWhole ring) }
     {
         let ring = match parts.assemble::<J, S>() {
             Ok(ring) => ring,
@@ -523,10 +601,7 @@ impl<S: EntryStore + Send, R: Host, L: Log + Sync, W: Write + Send> Serving<'_, 
             }
         };
         match self.serve_with(&ring) {
-            Ok(callers) => {
-                drop(conclude(ring, callers)?);
-                Ok(())
-            }
+            Ok(callers) => conclude(ring, callers),
             Err(finish) => {
                 ring.close();
                 Err(finish)

@@ -2,20 +2,17 @@
 ghost use Rattle.std.specs.Prelude.{◌≡◌};
 ghost use Rattle.chord_app_serve.specs.Keeping.{is_surplus, kept_until};
 
-use crate::serving::asker::RingAsker;
+use crate::serving::trying::TryingAsker;
 use chord_serve::{BeginRefusal, ClientSession, Resumed, SessionTable};
 use chord_store::EntryStore;
 use chord_table::Naming;
 use chord_wire::Token;
 use std::alloc::Global;
-use std::sync::{Condvar, CondvarTimeouts, Mutex, Wait};
-use std::time::{Clock, Duration};
+use std::sync::{Mutex, Wait};
+use std::time::Clock;
 
 /// How many bytes the kept answers of all sessions without a connection may have.
 const MOST_KEPT_BYTES: u64 = 64 << 20;
-
-/// For how many milliseconds a connection waits at a time for an older one to end.
-const TICK_MILLISECONDS: u64 = 100;
 
 /// The latest moment at which a session may have lost its connection that is kept no longer now,
 /// where one is kept for these seconds and its caller is needed.
@@ -35,9 +32,7 @@ fn is_surplus(bytes: u64) -> bool
 /// The sessions of a server's clients, with connections and without.
 #[derive(Drop)]
 pub struct Sessions<'r, J: Naming, S: EntryStore, R> {
-    table: Mutex<SessionTable<RingAsker<'r, J, S, R>>>,
-    /// Is notified when a connection loses its session.
-    lost: Condvar,
+    table: Mutex<SessionTable<TryingAsker<'r, J, S, R>>>,
     /// For how many seconds a session without a connection is kept though its caller is needed.
     seconds: u64,
 }
@@ -47,7 +42,6 @@ impl<'r, J: Naming, S: EntryStore, R: Wait + Clock> Sessions<'r, J, S, R> {
     pub fn new(alloc: Global, seconds: u64) -> Sessions<'r, J, S, R> {
         Sessions {
             table: Mutex::new(SessionTable::new(alloc)),
-            lost: Condvar::new(),
             seconds,
         }
     }
@@ -63,17 +57,18 @@ impl<'r, J: Naming, S: EntryStore, R: Wait + Clock> Sessions<'r, J, S, R> {
     }
 
     /// Gives the session of this token to this connection, unless another one has it still.
-    pub fn resume(&self, rt: &R, token: Token, connection: u64) -> Resumed<RingAsker<'r, J, S, R>> {
+    pub fn resume(
+        &self,
+        rt: &R,
+        token: Token,
+        connection: u64,
+    ) -> Resumed<TryingAsker<'r, J, S, R>> {
         self.table.lock(rt).resume(token, connection)
     }
 
-    /// Waits until that connection lost the session of this token, for a tick at most.
-    pub fn wait_for(&self, rt: &R, token: Token, connection: u64) {
-        let table = self.table.lock(rt);
-        let tick = Duration::from_millis(TICK_MILLISECONDS);
-        let (_table, _) = self.lost.wait_timeout_while(rt, table, tick, |table| {
-            table.connection_of(token) == Some(connection)
-        });
+    /// The token of the session that this connection has, if it has one.
+    pub fn token_of(&self, rt: &R, connection: u64) -> Option<Token> {
+        self.table.lock(rt).token_of(connection)
     }
 
     /// Keeps a session that lost its connection at this moment. Gives its asker if it is not kept.
@@ -82,18 +77,15 @@ impl<'r, J: Naming, S: EntryStore, R: Wait + Clock> Sessions<'r, J, S, R> {
         rt: &R,
         token: Token,
         now: u64,
-        client: ClientSession<RingAsker<'r, J, S, R>>,
-    ) -> Option<RingAsker<'r, J, S, R>> {
+        client: ClientSession<TryingAsker<'r, J, S, R>>,
+    ) -> Option<TryingAsker<'r, J, S, R>> {
         if self.seconds == 0 {
             self.end(rt, token);
             return Some(client.into_asker());
         }
         let parted = self.table.lock(rt).part(token, now, client);
         match parted {
-            Ok(()) => {
-                self.lost.notify_all();
-                None
-            }
+            Ok(()) => None,
             Err(client) => {
                 self.end(rt, token);
                 Some(client.into_asker())
@@ -104,12 +96,11 @@ impl<'r, J: Naming, S: EntryStore, R: Wait + Clock> Sessions<'r, J, S, R> {
     /// Forgets the session of this token that a connection has.
     pub fn end(&self, rt: &R, token: Token) {
         self.table.lock(rt).end(token);
-        self.lost.notify_all();
     }
 
     /// Drops the session that was kept longest, if for as long as one is kept at least. Its caller
     /// is needed.
-    pub fn drop_oldest(&self, rt: &R, now: u64) -> Option<RingAsker<'r, J, S, R>> {
+    pub fn drop_oldest(&self, rt: &R, now: u64) -> Option<TryingAsker<'r, J, S, R>> {
         let until = kept_until(now, self.seconds)?;
         self.table.lock(rt).drop_oldest(until)
     }
@@ -123,7 +114,7 @@ impl<'r, J: Naming, S: EntryStore, R: Wait + Clock> Sessions<'r, J, S, R> {
     }
 
     /// Drops the session that was kept longest, if the kept answers take too much memory.
-    pub fn drop_surplus(&self, rt: &R) -> Option<RingAsker<'r, J, S, R>> {
+    pub fn drop_surplus(&self, rt: &R) -> Option<TryingAsker<'r, J, S, R>> {
         let mut table = self.table.lock(rt);
         if !is_surplus(table.kept_bytes()) {
             return None;
@@ -132,7 +123,7 @@ impl<'r, J: Naming, S: EntryStore, R: Wait + Clock> Sessions<'r, J, S, R> {
     }
 
     /// Drops a session that is kept: the server ends.
-    pub fn drop_first(&self, rt: &R) -> Option<RingAsker<'r, J, S, R>> {
+    pub fn drop_first(&self, rt: &R) -> Option<TryingAsker<'r, J, S, R>> {
         self.table.lock(rt).drop_oldest(u64::MAX)
     }
 }

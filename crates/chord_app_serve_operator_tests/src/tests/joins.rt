@@ -1,7 +1,7 @@
 //! Nodes that an operator makes join, leave and crash while clients ask.
 
 use crate::checks::check;
-use crate::tests::operators::{Call, NO_SLOT, PLAIN, STOPS, unanswered};
+use crate::tests::calls::{STOPS, unanswered};
 use chord_app_serve_testkit::{
     Act, Addresses, Answer, Ask, Handle, Played, SMALL, Size, WAITS, do_acts, stay_beside,
 };
@@ -14,132 +14,33 @@ use std::test::Fail;
 use std::time::Clock;
 use std::{io, thread};
 
-/// Nodes that do not join. The ring has three slots more than nodes, and spare trees.
-const REFUSED: &[Call] = &[
-    Call {
-        line: "POST /nodes",
-        body: "{\"store\":\"list\"}",
-        status: "409 Conflict",
-        has: "{\"refused\":\"NoStore\"}",
-        ..PLAIN
-    },
-    Call {
-        line: "POST /nodes",
-        body: "{\"id\":\"c0000000000000000000000000000000\"}",
-        status: "409 Conflict",
-        has: "{\"refused\":\"IdTaken\"}",
-        ..PLAIN
-    },
-    Call {
-        line: "POST /nodes",
-        body: "{\"via\":2}",
-        status: "409 Conflict",
-        has: "{\"refused\":\"NoSuchNode\"}",
-        ..PLAIN
-    },
-];
-
-/// Node 2 joins, and the key `abc` comes to it. Its identifier begins with a9.
-const JOINS: &[Call] = &[
-    Call {
-        line: "GET /holder/abc",
-        status: "200 OK",
-        has: "\"node\":1}",
-        ..PLAIN
-    },
-    Call {
-        line: "POST /nodes",
-        body: "{\"id\":\"b0000000000000000000000000000000\",\"via\":1}",
-        status: "201 Created",
-        has: "{\"node\":2}",
-        ..PLAIN
-    },
-    Call {
-        line: "GET /holder/abc",
-        status: "200 OK",
-        has: "\"node\":2}",
-        ..PLAIN
-    },
-    Call {
-        line: "GET /ring",
-        status: "200 OK",
-        has: "\"slots\":5,",
-        ..PLAIN
-    },
-    Call {
-        line: "GET /metrics",
-        status: "200 OK",
-        has: "chord_nodes{phase=\"staying\"} 3\n",
-        ..PLAIN
-    },
-];
-
-/// Node 2 leaves, and the key goes on to node 1.
-const LEAVES: &[Call] = &[
-    Call {
-        line: "POST /nodes/2/leave",
-        status: "202 Accepted",
-        has: "{\"node\":2}",
-        ..PLAIN
-    },
-    Call {
-        line: "GET /metrics",
-        status: "200 OK",
-        has: "chord_nodes{phase=\"gone\"} 1\n",
-        ..PLAIN
-    },
-    Call {
-        line: "GET /holder/abc",
-        status: "200 OK",
-        has: "\"node\":1}",
-        ..PLAIN
-    },
-];
-
-/// Two nodes join that name no identifier. Then all slots are taken.
-const FILLS: &[Call] = &[
-    Call {
-        line: "POST /nodes",
-        status: "201 Created",
-        has: "{\"node\":3}",
-        ..PLAIN
-    },
-    Call {
-        line: "GET /metrics",
-        status: "200 OK",
-        has: "chord_segments{node=\"3\"} 1\n",
-        ..PLAIN
-    },
-    Call {
-        line: "POST /nodes",
-        status: "201 Created",
-        has: "{\"node\":4}",
-        ..PLAIN
-    },
-    NO_SLOT,
-    Call {
-        line: "GET /metrics",
-        status: "200 OK",
-        has: "chord_segments{node=\"4\"} 1\n",
-        ..PLAIN
-    },
-];
-
-/// Node 0, which holds nothing of `abc`, crashes once the ring stands without it.
-const CRASHES: &[Call] = &[
-    Call {
-        line: "POST /nodes/0/crash",
-        status: "200 OK",
-        has: "{\"node\":0}",
-        ..PLAIN
-    },
-    Call {
-        line: "GET /metrics",
-        status: "200 OK",
-        has: "chord_nodes{phase=\"crashed\"} 1\n",
-        ..PLAIN
-    },
-];
+/// The ring has three slots more than nodes, and spare trees. The identifier of `abc` begins with
+/// a9.
+const OPERATED: &str = r#"
+# Nodes that do not join.
+POST /nodes | {"store":"list"} > 409 Conflict | {"refused":"NoStore"}
+POST /nodes | {"id":"c0000000000000000000000000000000"} > 409 Conflict | {"refused":"IdTaken"}
+POST /nodes | {"via":2} > 409 Conflict | {"refused":"NoSuchNode"}
+# Node 2 joins, and the key `abc` comes to it.
+GET /holder/abc > 200 OK | "node":1}
+POST /nodes | {"id":"b0000000000000000000000000000000","via":1} > 201 Created | {"node":2}
+GET /holder/abc > 200 OK | "node":2}
+GET /ring > 200 OK | "slots":5,
+GET /metrics > 200 OK | chord_nodes{phase="staying"} 3\n
+# Node 2 leaves, and the key goes on to node 1.
+POST /nodes/2/leave > 202 Accepted | {"node":2}
+GET /metrics > 200 OK | chord_nodes{phase="gone"} 1\n
+GET /holder/abc > 200 OK | "node":1}
+# Two nodes join that name no identifier. Then all slots are taken.
+POST /nodes > 201 Created | {"node":3}
+GET /metrics > 200 OK | chord_segments{node="3"} 1\n
+POST /nodes > 201 Created | {"node":4}
+POST /nodes > 409 Conflict | {"refused":"NoSlot"}
+GET /metrics > 200 OK | chord_segments{node="4"} 1\n
+# Node 0, which holds nothing of `abc`, crashes once the ring stands without it.
+POST /nodes/0/crash > 200 OK | {"node":0}
+GET /metrics > 200 OK | chord_nodes{phase="crashed"} 1\n
+"#;
 
 /// What a client asks again and again. Nobody else asks for its value.
 const ROUND_OF_X: &[(Ask, Answer)] = &[
@@ -200,28 +101,15 @@ fn ask_rounds<R: Net>(
     Ok(0)
 }
 
-/// What the operator does while clients ask. Gives the script that was not answered as is wanted.
+/// What the operator does while clients ask, which it tells to end then. Gives the first line that
+/// was not answered as is due.
 fn operate<R: Net + Clock>(
     rt: &R,
     alloc: Global,
     operator: SocketAddr,
-) -> io::Result<Option<(usize, usize)>> {
-    for (number, script) in [REFUSED, JOINS, LEAVES, FILLS, CRASHES].iter().enumerate() {
-        if let Some(place) = unanswered(rt, alloc, operator, script)? {
-            return Ok(Some((number, place)));
-        }
-    }
-    Ok(None)
-}
-
-/// Operates, tells the clients to end, and stops the server.
-fn operate_to_the_end<R: Net + Clock>(
-    rt: &R,
-    alloc: Global,
-    operator: SocketAddr,
     is_over: &AtomicBool,
-) -> io::Result<Option<(usize, usize)>> {
-    let operated = operate(rt, alloc, operator);
+) -> io::Result<Option<&'static str>> {
+    let operated = unanswered(rt, alloc, operator, OPERATED);
     is_over.store(true, Ordering::SeqCst);
     operated
 }
@@ -232,9 +120,8 @@ struct Joined {
     /// How many rounds each client asked.
     x: io::Result<u64>,
     y: io::Result<u64>,
-    /// The script and the place in it of the operator's first call that was not answered as is
-    /// wanted.
-    operated: io::Result<Option<(usize, usize)>>,
+    /// The operator's first line that was not answered as is due.
+    operated: io::Result<Option<&'static str>>,
 }
 
 /// Two clients ask while the operator does its scripts. Then the operator stops the server.
@@ -252,7 +139,7 @@ fn join_and_ask<R: Handle + Net<Listener = TcpListener, Stream = TcpStream>>(
             thread::join(
                 rt,
                 move || ask_rounds(rt, alloc, at.frames, ROUND_OF_Y, is_over),
-                move || operate_to_the_end(rt, alloc, at.operator, is_over),
+                move || operate(rt, alloc, at.operator, is_over),
             )
         },
     );
@@ -287,7 +174,7 @@ fn nodes_come_and_go_while_clients_ask(rt: HostRuntime) -> Result<(), Fail> {
     let (is_well, joined) = joined_of(played).expect(&rt, "memory and ports for a server");
     let Joined { x, y, operated } = joined;
     check!(&rt;
-        operated.unwrap_or(Some((99, 99))) == None,
+        operated.unwrap_or(Some("none")) == None,
         "each call of the operator"
     );
     check!(&rt; x.unwrap_or(0) > 0, "each answer about x");

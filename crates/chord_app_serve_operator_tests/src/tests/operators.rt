@@ -1,5 +1,6 @@
 //! The operator of `serve --stay` over loopback.
 
+use crate::tests::calls::{STOPS, each_is_answered};
 use chord_app_serve_testkit::{
     Act, Acts, Addresses, Answer, Ask, Found, GOOD, Handle, SMALL, Size, WAITS, do_acts, look_at,
     stay_beside,
@@ -7,363 +8,65 @@ use chord_app_serve_testkit::{
 use log::sink::Discard;
 use std::alloc::Global;
 use std::hash::RandomState;
-use std::io::{self, PipeReader, PipeWriter, Read, Write};
-use std::net::{Net, SocketAddr, TcpListener, TcpStream};
+use std::io::{self, PipeReader, PipeWriter};
+use std::net::{Net, TcpListener, TcpStream};
 use std::test::Fail;
-use std::thread;
-use std::time::{Clock, Duration};
-
-/// What an operator asks for, and how it is answered.
-#[derive(Clone, Copy)]
-pub struct Call {
-    pub line: &'static str,
-    pub fields: &'static str,
-    pub body: &'static str,
-    pub status: &'static str,
-    /// What the answer has somewhere.
-    pub has: &'static str,
-}
-
-/// A call without a body and with no more fields than any has.
-pub const PLAIN: Call = Call {
-    line: "",
-    fields: "",
-    body: "",
-    status: "",
-    has: "",
-};
-
-/// A node may not join, since all slots are taken.
-pub const NO_SLOT: Call = Call {
-    line: "POST /nodes",
-    status: "409 Conflict",
-    has: "{\"refused\":\"NoSlot\"}",
-    ..PLAIN
-};
-
-/// The server is stopped.
-pub const STOPS: &[Call] = &[Call {
-    line: "POST /stop",
-    status: "202 Accepted",
-    ..PLAIN
-}];
-
-/// The answer to a call.
-fn answer(
-    alloc: Global,
-    stream: &mut (impl Read + Write),
-    port: u16,
-    call: Call,
-) -> io::Result<Vec<u8>> {
-    let Call {
-        line,
-        fields,
-        body,
-        ..
-    } = call;
-    let len = body.len();
-    let head = format!(in alloc; "{line} HTTP/1.1\r\nHost: 127.0.0.1:{port}\r\n")?;
-    let rest = format!(in alloc;
-        "Connection: close\r\n{fields}Content-Length: {len}\r\n\r\n{body}"
-    )?;
-    stream.write_all(head.as_bytes())?;
-    stream.write_all(rest.as_bytes())?;
-    let mut got = Vec::new(alloc);
-    stream.read_to_end(&mut got)?;
-    Ok(got)
-}
-
-/// Whether an answer has the status, and what the call wants it to have.
-fn is_wanted(alloc: Global, got: &[u8], call: Call) -> io::Result<bool> {
-    let status = call.status;
-    let begins = format!(in alloc; "HTTP/1.1 {status}\r\n")?;
-    let has = call.has.as_bytes();
-    Ok(
-        got.starts_with(begins.as_bytes())
-            && (has.is_empty() || got.windows(has.len()).any(|part| part == has)),
-    )
-}
-
-/// Whether the call is answered as is wanted.
-fn is_answered<R: Net>(rt: &R, alloc: Global, address: SocketAddr, call: Call) -> io::Result<bool> {
-    let mut stream = TcpStream::connect(rt, address)?;
-    let got = answer(alloc, &mut stream, address.port(), call)?;
-    is_wanted(alloc, &got, call)
-}
-
-/// Calls until the answer is what is wanted, as once the ring has settled.
-fn is_answered_soon<R: Net + Clock>(
-    rt: &R,
-    alloc: Global,
-    address: SocketAddr,
-    call: Call,
-) -> io::Result<bool> {
-    for _ in 0..2_000u64 {
-        if is_answered(rt, alloc, address, call)? {
-            return Ok(true);
-        }
-        thread::sleep(rt, Duration::from_millis(5));
-    }
-    Ok(false)
-}
-
-/// The first of these calls that is not answered as is wanted, even after some time.
-pub fn unanswered<R: Net + Clock>(
-    rt: &R,
-    alloc: Global,
-    address: SocketAddr,
-    calls: &[Call],
-) -> io::Result<Option<usize>> {
-    for (place, call) in calls.iter().enumerate() {
-        if !is_answered_soon(rt, alloc, address, *call)? {
-            return Ok(Some(place));
-        }
-    }
-    Ok(None)
-}
+use std::time::Clock;
 
 /// What is asked of a ring of two nodes that stay.
-const BEFORE: &[Call] = &[
-    Call {
-        line: "GET /health",
-        status: "200 OK",
-        has: "\r\n\r\nok",
-        ..PLAIN
-    },
-    Call {
-        line: "GET /ready",
-        status: "200 OK",
-        has: "\r\n\r\nok\n",
-        ..PLAIN
-    },
-    Call {
-        line: "GET /",
-        status: "200 OK",
-        has: "content-type: text/html",
-        ..PLAIN
-    },
-    Call {
-        line: "GET /ring",
-        status: "200 OK",
-        has: "\"slots\":2,\"successors\":3,",
-        ..PLAIN
-    },
-    Call {
-        line: "GET /ring",
-        status: "200 OK",
-        has: "\"callers\":{\"all\":2,\"open\":0,\"pending\":0}",
-        ..PLAIN
-    },
-    Call {
-        line: "GET /ring",
-        status: "200 OK",
-        has: "\"node\":1,\"outbox\":[],\"pairs\":0",
-        ..PLAIN
-    },
-    Call {
-        line: "GET /metrics",
-        status: "200 OK",
-        has: "chord_nodes{phase=\"staying\"} 2\n",
-        ..PLAIN
-    },
-    Call {
-        line: "GET /holder/abc",
-        status: "200 OK",
-        has: "{\"id\":\"a9993e364706816aba3e25717850c26c\",\"node\":1}",
-        ..PLAIN
-    },
-    NO_SLOT,
-    Call {
-        line: "POST /nodes/2/leave",
-        status: "404 Not Found",
-        has: "{\"refused\":\"NoSuchNode\"}",
-        ..PLAIN
-    },
-    Call {
-        line: "POST /nodes/2/crash",
-        status: "404 Not Found",
-        has: "{\"refused\":\"NoSuchNode\"}",
-        ..PLAIN
-    },
-    Call {
-        line: "POST /nodes/1/crash",
-        fields: "Origin: http://example.org\r\n",
-        body: "",
-        status: "403 Forbidden",
-        has: "{\"refused\":\"ForeignOrigin\"}",
-    },
-    Call {
-        line: "POST /nodes/1/crash",
-        fields: "",
-        body: "{\"force\":1}",
-        status: "400 Bad Request",
-        has: "{\"refused\":\"BadForce\"}",
-    },
-    Call {
-        line: "GET /pairs?limit=0",
-        status: "400 Bad Request",
-        has: "{\"refused\":\"BadLimit\"}",
-        ..PLAIN
-    },
-    Call {
-        line: "POST /pairs",
-        status: "405 Method Not Allowed",
-        has: "allow: GET, HEAD",
-        ..PLAIN
-    },
-    Call {
-        line: "PUT /ring",
-        status: "405 Method Not Allowed",
-        has: "allow: GET, HEAD",
-        ..PLAIN
-    },
-    Call {
-        line: "GET /rings",
-        status: "404 Not Found",
-        has: "{\"refused\":\"NoSuchPath\"}",
-        ..PLAIN
-    },
-];
+const BEFORE: &str = r#"
+GET /health > 200 OK | \r\n\r\nok
+GET /ready > 200 OK | \r\n\r\nok\n
+GET / > 200 OK | content-type: text/html
+GET /ring > 200 OK | "slots":2,"successors":3,
+GET /ring > 200 OK | "callers":{"all":2,"open":0,"pending":0}
+GET /ring > 200 OK | "node":1,"outbox":[],"pairs":0
+GET /metrics > 200 OK | chord_nodes{phase="staying"} 2\n
+GET /holder/abc > 200 OK | {"id":"a9993e364706816aba3e25717850c26c","node":1}
+POST /nodes > 409 Conflict | {"refused":"NoSlot"}
+POST /nodes/2/leave > 404 Not Found | {"refused":"NoSuchNode"}
+POST /nodes/2/crash > 404 Not Found | {"refused":"NoSuchNode"}
+POST /nodes/1/crash | Origin: http://example.org > 403 Forbidden | {"refused":"ForeignOrigin"}
+POST /nodes/1/crash | {"force":1} > 400 Bad Request | {"refused":"BadForce"}
+GET /pairs?limit=0 > 400 Bad Request | {"refused":"BadLimit"}
+POST /pairs > 405 Method Not Allowed | allow: GET, HEAD
+PUT /ring > 405 Method Not Allowed | allow: GET, HEAD
+GET /rings > 404 Not Found | {"refused":"NoSuchPath"}
+"#;
 
 /// The pair of `abc`, and that reading goes on behind its identifier.
-const READ: &[Call] = &[
-    Call {
-        line: "GET /pairs?after=a9993e364706816aba3e25717850c26b&limit=1",
-        status: "200 OK",
-        has: "\r\n\r\ninsert x:616263 x:78\n",
-        ..PLAIN
-    },
-    Call {
-        line: "GET /pairs?after=a9993e364706816aba3e25717850c26b&limit=1",
-        status: "200 OK",
-        has: "chord-page: held\r\nchord-next: a9993e364706816aba3e25717850c26c\r\n",
-        ..PLAIN
-    },
-    Call {
-        line: "GET /pairs?after=a9993e364706816aba3e25717850c26c",
-        status: "200 OK",
-        has: "\r\n\r\n",
-        ..PLAIN
-    },
-];
+const READ: &str = r#"
+GET /pairs?after=a9993e364706816aba3e25717850c26b&limit=1 > 200 OK | \r\n\r\ninsert x:616263 x:78\n
+GET /pairs?after=a9993e364706816aba3e25717850c26b&limit=1 > 200 OK | chord-page: held\r\n
+GET /pairs?after=a9993e364706816aba3e25717850c26b&limit=1 > 200 OK | \r\nchord-next: a9993e364706816aba3e25717850c26c\r\n
+GET /pairs?after=a9993e364706816aba3e25717850c26c > 200 OK | \r\n\r\n
+"#;
 
 /// Two clients are connected. Node 1 leaves, and its key comes to node 0.
-const LEAVE: &[Call] = &[
-    Call {
-        line: "GET /ring",
-        status: "200 OK",
-        has: "\"callers\":{\"all\":2,\"open\":2,\"pending\":0},\"connections\":2,",
-        ..PLAIN
-    },
-    Call {
-        line: "GET /ready",
-        status: "503 Service Unavailable",
-        has: "\r\n\r\nno caller is free\n",
-        ..PLAIN
-    },
-    Call {
-        line: "GET /health",
-        status: "200 OK",
-        has: "\r\n\r\nok\n",
-        ..PLAIN
-    },
-    Call {
-        line: "POST /nodes/1/leave",
-        status: "202 Accepted",
-        has: "{\"node\":1}",
-        ..PLAIN
-    },
-    Call {
-        line: "GET /ring",
-        status: "200 OK",
-        has: "\"phase\":\"gone\"",
-        ..PLAIN
-    },
-    Call {
-        line: "POST /nodes/1/leave",
-        status: "409 Conflict",
-        has: "{\"refused\":\"NotStaying\"}",
-        ..PLAIN
-    },
-    Call {
-        line: "POST /nodes/1/crash",
-        status: "409 Conflict",
-        has: "{\"refused\":\"NotLive\"}",
-        ..PLAIN
-    },
-    Call {
-        line: "GET /holder/abc",
-        status: "200 OK",
-        has: "{\"id\":\"a9993e364706816aba3e25717850c26c\",\"node\":0}",
-        ..PLAIN
-    },
-];
+const LEAVE: &str = r#"
+GET /ring > 200 OK | "callers":{"all":2,"open":2,"pending":0},"connections":2,
+GET /ready > 503 Service Unavailable | \r\n\r\nno caller is free\n
+GET /health > 200 OK | \r\n\r\nok\n
+POST /nodes/1/leave > 202 Accepted | {"node":1}
+GET /ring > 200 OK | "phase":"gone"
+POST /nodes/1/leave > 409 Conflict | {"refused":"NotStaying"}
+POST /nodes/1/crash > 409 Conflict | {"refused":"NotLive"}
+GET /holder/abc > 200 OK | {"id":"a9993e364706816aba3e25717850c26c","node":0}
+"#;
 
 /// The last node crashes, though the ring does not stand without it.
-const CRASH: &[Call] = &[
-    Call {
-        line: "POST /nodes/0/crash",
-        status: "409 Conflict",
-        has: "{\"refused\":\"Unsafe\"}",
-        ..PLAIN
-    },
-    Call {
-        line: "POST /nodes/0/crash",
-        fields: "",
-        body: "{\"force\":true}",
-        status: "200 OK",
-        has: "{\"node\":0}",
-    },
-    Call {
-        line: "GET /ring",
-        status: "200 OK",
-        has: "\"phase\":\"crashed\"",
-        ..PLAIN
-    },
-    Call {
-        line: "GET /ring",
-        status: "200 OK",
-        has: ",\"premise\":false,",
-        ..PLAIN
-    },
-    Call {
-        line: "GET /metrics",
-        status: "200 OK",
-        has: "\nchord_ring_premise 0\n",
-        ..PLAIN
-    },
-    Call {
-        line: "GET /pairs?after=a9993e364706816aba3e25717850c26b",
-        status: "200 OK",
-        has: "chord-page: lost\r\n",
-        ..PLAIN
-    },
-    Call {
-        line: "GET /pairs?after=a9993e364706816aba3e25717850c26b",
-        status: "200 OK",
-        has: "content-length: 0\r\n",
-        ..PLAIN
-    },
-    Call {
-        line: "GET /ring",
-        fields: "Accept: text/plain\r\n",
-        body: "",
-        status: "200 OK",
-        has: "  crashed  ",
-    },
-    Call {
-        line: "GET /health",
-        status: "503 Service Unavailable",
-        has: "\r\n\r\nno node is staying\n",
-        ..PLAIN
-    },
-    Call {
-        line: "POST /stop",
-        status: "202 Accepted",
-        has: "",
-        ..PLAIN
-    },
-];
+const CRASH: &str = r#"
+POST /nodes/0/crash > 409 Conflict | {"refused":"Unsafe"}
+POST /nodes/0/crash | {"force":true} > 200 OK | {"node":0}
+GET /ring > 200 OK | "phase":"crashed"
+GET /ring > 200 OK | ,"premise":false,
+GET /metrics > 200 OK | \nchord_ring_premise 0\n
+GET /pairs?after=a9993e364706816aba3e25717850c26b > 200 OK | chord-page: lost\r\n
+GET /pairs?after=a9993e364706816aba3e25717850c26b > 200 OK | content-length: 0\r\n
+GET /ring | Accept: text/plain > 200 OK |   crashed  
+GET /health > 503 Service Unavailable | \r\n\r\nno node is staying\n
+POST /stop > 202 Accepted
+"#;
 
 /// Two clients, one after another, by way of node 0 and, while it stays, node 1.
 const CLIENTS: Acts = &[
@@ -380,24 +83,11 @@ const LATER: Acts = &[
     (0, Act::Leave),
 ];
 
-/// Expects that each of these calls is answered as is wanted, at once or after some time.
-pub fn each_is_answered<R: Net + Clock>(
-    rt: &R,
-    alloc: Global,
-    address: SocketAddr,
-    calls: &[Call],
-) -> io::Result<()> {
-    match unanswered(rt, alloc, address, calls)? {
-        None => Ok(()),
-        Some(_) => Err(io::Error::from(io::ErrorKind::InvalidData)),
-    }
-}
-
 /// What an operator or clients do next.
 #[derive(Clone, Copy)]
 enum Step {
-    /// Each of these calls is answered as is wanted, at once or after some time.
-    Operator(&'static [Call]),
+    /// Each of these calls is answered as is due, at once or after some time.
+    Operator(&'static str),
     Clients(Acts),
 }
 
@@ -460,20 +150,10 @@ fn an_operator_of_a_ring(rt: HostRuntime) -> Result<(), Fail> {
 }
 
 /// Node 1 holds `abc`, and node 0 holds `b`.
-const HOLDERS: &[Call] = &[
-    Call {
-        line: "GET /holder/abc",
-        status: "200 OK",
-        has: "\"node\":1}",
-        ..PLAIN
-    },
-    Call {
-        line: "GET /holder/b",
-        status: "200 OK",
-        has: "\"node\":0}",
-        ..PLAIN
-    },
-];
+const HOLDERS: &str = r#"
+GET /holder/abc > 200 OK | "node":1}
+GET /holder/b > 200 OK | "node":0}
+"#;
 
 /// A client retrieves `b` by its request 1, and is told that it has no values.
 const RETRIEVE_B: Act = Act::Exchange(
@@ -496,31 +176,15 @@ const THREE_LEAVE: Acts = &[(0, Act::Leave), (1, Act::Leave), (2, Act::Leave)];
 
 /// Both nodes told the replies, and neither passed a request on. A request of 16 bytes came twice
 /// and one of 18, and each answer has 18.
-const NONE_PASSED_ON: &[Call] = &[
-    Call {
-        line: "GET /metrics",
-        status: "200 OK",
-        has: concat!(
-            "chord_asks_total{node=\"0\",answer=\"told\"} 2\n",
-            "chord_asks_total{node=\"1\",answer=\"told\"} 1\n",
-            "chord_asks_total{node=\"0\",answer=\"forwarded\"} 0\n",
-            "chord_asks_total{node=\"1\",answer=\"forwarded\"} 0\n",
-        ),
-        ..PLAIN
-    },
-    Call {
-        line: "GET /metrics",
-        status: "200 OK",
-        has: concat!(
-            "chord_forwards_total 0\n",
-            "# HELP chord_bytes_total Bytes that connections of clients carried.\n",
-            "# TYPE chord_bytes_total counter\n",
-            "chord_bytes_total{direction=\"read\"} 50\n",
-            "chord_bytes_total{direction=\"written\"} 54\n",
-        ),
-        ..PLAIN
-    },
-];
+const NONE_PASSED_ON: &str = r#"
+GET /metrics > 200 OK | chord_asks_total{node="0",answer="told"} 2\n
+GET /metrics > 200 OK | chord_asks_total{node="1",answer="told"} 1\n
+GET /metrics > 200 OK | chord_asks_total{node="0",answer="forwarded"} 0\n
+GET /metrics > 200 OK | chord_asks_total{node="1",answer="forwarded"} 0\n
+GET /metrics > 200 OK | chord_forwards_total 0\n
+GET /metrics > 200 OK | chord_bytes_total{direction="read"} 50\n
+GET /metrics > 200 OK | chord_bytes_total{direction="written"} 54\n
+"#;
 
 const AT_THEIR_NODES: &[Step] = &[
     Step::Operator(HOLDERS),
@@ -544,13 +208,9 @@ fn a_connection_asks_at_the_node_of_its_number(rt: HostRuntime) -> Result<(), Fa
     Ok(())
 }
 
-const NODE_1_CRASHES: &[Call] = &[Call {
-    line: "POST /nodes/1/crash",
-    fields: "",
-    body: "{\"force\":true}",
-    status: "200 OK",
-    has: "{\"node\":1}",
-}];
+const NODE_1_CRASHES: &str = r#"
+POST /nodes/1/crash | {"force":true} > 200 OK | {"node":1}
+"#;
 
 /// A client asks for `abc` by its request 2.
 const RETRIEVE_ABC: &[u8] = b"\x00\x00\x00\x0e\x01\x02\x00\x00\x00\x00\x00\x00\x00\x02\x03abc";
@@ -562,81 +222,27 @@ const FAULT_11: &[u8] = b"\x00\x00\x00\x0b\x01\xff\x00\x00\x00\x00\x00\x00\x00\x
 const NO_ANSWER: Act = Act::Exchange(RETRIEVE_ABC, FAULT_11);
 
 /// Two requests got a reply, and two were told that there is no answer.
-const TWO_REPLIES: &[Call] = &[
-    Call {
-        line: "GET /metrics",
-        status: "200 OK",
-        has: concat!(
-            "chord_answers_total{protocol=\"frames\",answer=\"reply\"} 2\n",
-            "chord_answers_total{protocol=\"frames\",answer=\"full\"} 0\n",
-            "chord_answers_total{protocol=\"frames\",answer=\"no_answer\"} 2\n",
-            "chord_answers_total{protocol=\"frames\",answer=\"memory\"} 0\n",
-            "chord_answers_total{protocol=\"frames\",answer=\"refused\"} 0\n",
-        ),
-        ..PLAIN
-    },
-    Call {
-        line: "GET /metrics",
-        status: "200 OK",
-        has: concat!(
-            "\nchord_request_seconds_bucket{le=\"10000000e-6\"} 4\n",
-            "chord_request_seconds_bucket{le=\"+Inf\"} 4\n",
-        ),
-        ..PLAIN
-    },
-    Call {
-        line: "GET /metrics",
-        status: "200 OK",
-        has: "\nchord_request_seconds_count 4\n",
-        ..PLAIN
-    },
-    Call {
-        line: "GET /metrics",
-        status: "200 OK",
-        has: "\nchord_callers_pending 0\n",
-        ..PLAIN
-    },
-];
+const TWO_REPLIES: &str = r#"
+GET /metrics > 200 OK | chord_answers_total{protocol="frames",answer="reply"} 2\n
+GET /metrics > 200 OK | chord_answers_total{protocol="frames",answer="full"} 0\n
+GET /metrics > 200 OK | chord_answers_total{protocol="frames",answer="no_answer"} 2\n
+GET /metrics > 200 OK | chord_answers_total{protocol="frames",answer="memory"} 0\n
+GET /metrics > 200 OK | chord_answers_total{protocol="frames",answer="refused"} 0\n
+GET /metrics > 200 OK | \nchord_request_seconds_bucket{le="10000000e-6"} 4\n
+GET /metrics > 200 OK | chord_request_seconds_bucket{le="+Inf"} 4\n
+GET /metrics > 200 OK | \nchord_request_seconds_count 4\n
+GET /metrics > 200 OK | \nchord_callers_pending 0\n
+"#;
 
 /// Node 1 is rescued: node 0 holds `abc` then, and node 1 is gone.
-const NODE_1_IS_RESCUED: &[Call] = &[
-    Call {
-        line: "POST /nodes/0/rescue",
-        status: "409 Conflict",
-        has: "{\"refused\":\"NotCrashed\"}",
-        ..PLAIN
-    },
-    Call {
-        line: "POST /nodes/2/rescue",
-        status: "404 Not Found",
-        has: "{\"refused\":\"NoSuchNode\"}",
-        ..PLAIN
-    },
-    Call {
-        line: "POST /nodes/1/rescue",
-        status: "202 Accepted",
-        has: "{\"node\":1}",
-        ..PLAIN
-    },
-    Call {
-        line: "GET /holder/abc",
-        status: "200 OK",
-        has: "\"node\":0}",
-        ..PLAIN
-    },
-    Call {
-        line: "GET /metrics",
-        status: "200 OK",
-        has: "chord_nodes{phase=\"gone\"} 1\n",
-        ..PLAIN
-    },
-    Call {
-        line: "POST /nodes/1/rescue",
-        status: "409 Conflict",
-        has: "{\"refused\":\"NotCrashed\"}",
-        ..PLAIN
-    },
-];
+const NODE_1_IS_RESCUED: &str = r#"
+POST /nodes/0/rescue > 409 Conflict | {"refused":"NotCrashed"}
+POST /nodes/2/rescue > 404 Not Found | {"refused":"NoSuchNode"}
+POST /nodes/1/rescue > 202 Accepted | {"node":1}
+GET /holder/abc > 200 OK | "node":0}
+GET /metrics > 200 OK | chord_nodes{phase="gone"} 1\n
+POST /nodes/1/rescue > 409 Conflict | {"refused":"NotCrashed"}
+"#;
 
 /// The node that holds `abc` crashes. Each request for that key gets fault 11, and another client
 /// is answered, which asks for the key of the other node. Behind a rescue the same request is
@@ -663,7 +269,17 @@ const BEHIND_A_CRASH: &[Step] = &[
     ]),
 ];
 
-/// The server is stopped while a client waits for an answer to its request 2. It is told fault 11.
+/// A client asks for `b` by its request 2 and at once for `abc` by its request 3, and is told that
+/// `b` has no values: the other request was read then too, and waits.
+const ASK_BOTH: Act = Act::Exchange(
+    b"\x00\x00\x00\x0c\x01\x02\x00\x00\x00\x00\x00\x00\x00\x02\x01b\x00\x00\x00\x0e\x01\x02\x00\x00\x00\x00\x00\x00\x00\x03\x03abc",
+    b"\x00\x00\x00\x0e\x01\x82\x00\x00\x00\x00\x00\x00\x00\x02\x00\x00\x00\x00",
+);
+
+/// Fault 11 for request 3.
+const FAULT_11_FOR_3: &[u8] = b"\x00\x00\x00\x0b\x01\xff\x00\x00\x00\x00\x00\x00\x00\x03\x0b";
+
+/// The server is stopped while a client waits for an answer to its request 3. It is told fault 11.
 const STOPPED_WITH_A_REQUEST: &[Step] = &[
     Step::Operator(HOLDERS),
     Step::Clients(&[
@@ -671,9 +287,9 @@ const STOPPED_WITH_A_REQUEST: &[Step] = &[
         (0, Act::Call(1, Ask::Insert(b"x"), Answer::Added)),
     ]),
     Step::Operator(NODE_1_CRASHES),
-    Step::Clients(&[(0, Act::Say(RETRIEVE_ABC))]),
+    Step::Clients(&[(0, ASK_BOTH)]),
     Step::Operator(STOPS),
-    Step::Clients(&[(0, Act::HearBytes(FAULT_11)), (0, Act::End)]),
+    Step::Clients(&[(0, Act::HearBytes(FAULT_11_FOR_3)), (0, Act::End)]),
 ];
 
 /// A request is sent 1,000 times, for a tenth of a second each, but a stop ends that.
@@ -698,20 +314,10 @@ const INSERT_B: Act = Act::Exchange(
 );
 
 /// Node 1 begins to be rescued, and is not gone.
-const RESCUE_BEGINS: &[Call] = &[
-    Call {
-        line: "POST /nodes/1/rescue",
-        status: "202 Accepted",
-        has: "{\"node\":1}",
-        ..PLAIN
-    },
-    Call {
-        line: "GET /metrics",
-        status: "200 OK",
-        has: "chord_nodes{phase=\"rescuing\"} 1\n",
-        ..PLAIN
-    },
-];
+const RESCUE_BEGINS: &str = r#"
+POST /nodes/1/rescue > 202 Accepted | {"node":1}
+GET /metrics > 200 OK | chord_nodes{phase="rescuing"} 1\n
+"#;
 
 /// The server is stopped while node 0 has no room for what node 1 gives, and while a client sends
 /// nothing.

@@ -2,7 +2,7 @@
 //! or it leaves the client, which was idle for too long.
 
 use crate::checks::check;
-use crate::tests::operators::{Call, PLAIN, each_is_answered};
+use crate::tests::calls::each_is_answered;
 use chord_app_serve_testkit::{
     Addresses, GOOD, SMALL, Size, WAITS, expect, fill, look_at, request_frame, retrieve,
     stay_beside,
@@ -60,20 +60,10 @@ fn a_client_that_does_not_read_is_left(rt: HostRuntime) -> Result<(), Fail> {
 }
 
 /// One connection was ended since its client was idle, and none is open.
-const ONE_WAS_IDLE: &[Call] = &[
-    Call {
-        line: "GET /metrics",
-        status: "200 OK",
-        has: "chord_connections_total{result=\"idle\"} 1\n",
-        ..PLAIN
-    },
-    Call {
-        line: "GET /metrics",
-        status: "200 OK",
-        has: "chord_connections 0\n",
-        ..PLAIN
-    },
-];
+const ONE_WAS_IDLE: &str = r#"
+GET /metrics > 200 OK | chord_connections_total{result="idle"} 1\n
+GET /metrics > 200 OK | chord_connections 0\n
+"#;
 
 /// A client does not read until an operator sees that the server ended its connection. Gives the
 /// connection, which is open at the client's side.

@@ -39,7 +39,8 @@ pub fn stay_over<'a, R: Host, L: Log + Sync, W: Write + Send + Drop>(
         operator: None,
         notes,
     };
-    stay(rt, &setup, stores, seconds, input, writer)
+    stay(rt, &setup, stores, seconds, input, writer)?;
+    Ok(())
 }
 
 /// Four clients, one after another, each with numbers from 1 on. The first adds a value twice, the

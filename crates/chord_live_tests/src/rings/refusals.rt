@@ -36,7 +36,7 @@ fn settings_have_limits(rt: HostRuntime) {
     for (slots, callers, tries, wait_ms) in [
         (0, 1, 1, 1),
         (4_097, 1, 1, 1),
-        (1, 4_097, 1, 1),
+        (1, 16_385, 1, 1),
         (1, 1, 0, 1),
         (1, 1, 1_001, 1),
         (1, 1, 1, 0),
@@ -58,7 +58,7 @@ fn lists_have_limits(rt: HostRuntime) {
 
 #[test]
 fn settings_at_their_limits_are_good(rt: HostRuntime) {
-    for (slots, callers, tries, wait_ms) in [(1, 0, 1, 1), (4_096, 4_096, 1_000, 60_000)] {
+    for (slots, callers, tries, wait_ms) in [(1, 0, 1, 1), (4_096, 16_384, 1_000, 60_000)] {
         let limits = settings(slots, callers, tries, wait_ms);
         assert!(rt; limits.are_within(), "{slots} slots");
         assert!(rt;

@@ -39,4 +39,12 @@ pub enum Command {
     Info,
     /// QUIT: OK, and the end of the connection.
     Quit,
+    /// RESET: the connection is as it began, but for its number.
+    Reset,
+    /// MULTI: a transaction begins.
+    Multi,
+    /// EXEC: the transaction is done, and ends.
+    Exec,
+    /// DISCARD: the transaction ends, and nothing of it is done.
+    Discard,
 }

@@ -63,8 +63,8 @@ fn hello_of(mut operands: Operands) -> Result<Command, Refusal>
 }
 
 #[tactic(auto, unfolding(crate::specs::Table::client_of))]
-fn client_of(name: Word, mut operands: Operands) -> Result<Command, Refusal>
-    ensures { result ≡ client_of name operands }
+fn client_of(mut operands: Operands) -> Result<Command, Refusal>
+    ensures { result ≡ client_of operands }
 {
     let Some(word) = operands.next() else {
         return Err(Refusal::WrongNumber(Verb::Client));
@@ -79,13 +79,16 @@ fn client_of(name: Word, mut operands: Operands) -> Result<Command, Refusal>
     } else if is_text(&word, b"id") {
         counted(left == 0, Verb::Client, Command::Number)
     } else {
-        Err(Refusal::UnknownCommand { name })
+        Err(Refusal::UnknownSubcommand {
+            verb: Verb::Client,
+            name: word,
+        })
     }
 }
 
 #[tactic(auto, unfolding(crate::specs::Table::command_command))]
-fn command_command(name: Word, mut operands: Operands) -> Result<Command, Refusal>
-    ensures { result ≡ command_command name operands }
+fn command_command(mut operands: Operands) -> Result<Command, Refusal>
+    ensures { result ≡ command_command operands }
 {
     let Some(word) = operands.next() else {
         return Ok(Command::Nothing);
@@ -95,13 +98,16 @@ fn command_command(name: Word, mut operands: Operands) -> Result<Command, Refusa
     } else if is_text(&word, b"count") {
         counted(operands.left() == 0, Verb::Command, Command::Commands)
     } else {
-        Err(Refusal::UnknownCommand { name })
+        Err(Refusal::UnknownSubcommand {
+            verb: Verb::Command,
+            name: word,
+        })
     }
 }
 
 #[tactic(auto, unfolding(crate::specs::Table::config_of))]
-fn config_of(name: Word, mut operands: Operands) -> Result<Command, Refusal>
-    ensures { result ≡ config_of name operands }
+fn config_of(mut operands: Operands) -> Result<Command, Refusal>
+    ensures { result ≡ config_of operands }
 {
     let Some(word) = operands.next() else {
         return Err(Refusal::WrongNumber(Verb::Config));
@@ -109,22 +115,31 @@ fn config_of(name: Word, mut operands: Operands) -> Result<Command, Refusal>
     if is_text(&word, b"get") {
         counted(operands.left() == 1, Verb::Config, Command::Nothing)
     } else {
-        Err(Refusal::UnknownCommand { name })
+        Err(Refusal::UnknownSubcommand {
+            verb: Verb::Config,
+            name: word,
+        })
     }
 }
 
 /// What another verb calls for.
-pub fn connection_command(verb: Verb, name: Word, operands: Operands) -> Result<Command, Refusal>
-    ensures { result ≡ connection_command verb name operands }
+pub fn connection_command(verb: Verb, operands: Operands) -> Result<Command, Refusal>
+    ensures { result ≡ connection_command verb operands }
 {
     match verb {
         Verb::Ping | Verb::Echo => ping_of(operands),
         Verb::Select => select_of(operands),
         Verb::Hello => hello_of(operands),
-        Verb::Client => client_of(name, operands),
-        Verb::Command => command_command(name, operands),
-        Verb::Config => config_of(name, operands),
+        Verb::Client => client_of(operands),
+        Verb::Command => command_command(operands),
+        Verb::Config => config_of(operands),
         Verb::Info => Ok(Command::Info),
+        Verb::Reset => Ok(Command::Reset),
+        Verb::Multi => Ok(Command::Multi),
+        Verb::Exec => Ok(Command::Exec),
+        Verb::Discard => Ok(Command::Discard),
+        Verb::Watch => Err(Refusal::NoTransactions),
+        Verb::Unwatch => Ok(Command::Accept),
         _ => Ok(Command::Quit),
     }
 }

@@ -53,6 +53,6 @@ pub fn command_of(alloc: Global, words: Words) -> Result<Command, Denied>
     if verb.is_of_sets() {
         set_command(alloc, verb, operands)
     } else {
-        Ok(connection_command(verb, name, operands)?)
+        Ok(connection_command(verb, operands)?)
     }
 }

@@ -15,6 +15,8 @@ pub enum Refusal {
     /// The bytes are no command.
     Protocol(ProtocolError),
     UnknownCommand { name: Word },
+    /// The second word of CLIENT, COMMAND or CONFIG is none of theirs.
+    UnknownSubcommand { verb: Verb, name: Word },
     /// Too few or too many words.
     WrongNumber(Verb),
     /// A key is empty or above 255 bytes.
@@ -27,6 +29,14 @@ pub enum Refusal {
     NoDatabase,
     /// There is one version of the protocol, 2.
     NoProtocol,
+    /// Commands are not done together: this one is of a transaction.
+    NoTransactions,
+    /// EXEC behind MULTI: no command of the transaction was done.
+    Aborted,
+    /// EXEC without MULTI.
+    NothingToExecute,
+    /// DISCARD without MULTI.
+    NothingToDiscard,
     /// The set has 1,000 members.
     SetFull(Progress),
     /// The node's store is full. The request may still act.

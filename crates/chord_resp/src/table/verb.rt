@@ -25,10 +25,16 @@ pub enum Verb {
     Config,
     Info,
     Quit,
+    Reset,
+    Multi,
+    Exec,
+    Discard,
+    Watch,
+    Unwatch,
 }
 
 /// All names, those of sets first.
-pub const ALL: [Verb; 17] = [
+pub const ALL: [Verb; 23] = [
     Verb::Sadd,
     Verb::Srem,
     Verb::Smembers,
@@ -46,6 +52,12 @@ pub const ALL: [Verb; 17] = [
     Verb::Config,
     Verb::Info,
     Verb::Quit,
+    Verb::Reset,
+    Verb::Multi,
+    Verb::Exec,
+    Verb::Discard,
+    Verb::Watch,
+    Verb::Unwatch,
 ];
 
 /// Whether the bytes are the text, in upper or lower case.
@@ -90,6 +102,12 @@ impl Verb {
             Verb::Config => b"config",
             Verb::Info => b"info",
             Verb::Quit => b"quit",
+            Verb::Reset => b"reset",
+            Verb::Multi => b"multi",
+            Verb::Exec => b"exec",
+            Verb::Discard => b"discard",
+            Verb::Watch => b"watch",
+            Verb::Unwatch => b"unwatch",
         }
     }
 
@@ -124,12 +142,13 @@ impl Verb {
     {
         match self {
             Verb::Sadd | Verb::Srem | Verb::Smismember => 2 <= operands,
-            Verb::Exists | Verb::Client | Verb::Config => 1 <= operands,
+            Verb::Exists | Verb::Client | Verb::Config | Verb::Watch => 1 <= operands,
             Verb::Smembers | Verb::Scard | Verb::Type | Verb::Echo | Verb::Select => operands == 1,
             Verb::Sismember => operands == 2,
             Verb::Ping | Verb::Hello | Verb::Info => operands <= 1,
             Verb::Command => true,
-            Verb::Quit => operands == 0,
+            Verb::Quit | Verb::Reset | Verb::Multi | Verb::Exec | Verb::Discard | Verb::Unwatch =>
+                operands == 0,
         }
     }
 }

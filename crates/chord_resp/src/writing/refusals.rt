@@ -1,11 +1,12 @@
 //! The texts of errors.
 ghost use Rattle.std.specs.Prelude.{◌≡◌, ◌++◌, map, take, IfOk};
 ghost use Rattle.chord_resp.specs.Answers.{Joins, error};
-ghost use Rattle.chord_resp.specs.Refusals.{shown_byte, shown, fixed_text, detail, protocol_text, progress_text, refusal_text};
+ghost use Rattle.chord_resp.specs.Refusals.{shown_byte, shown, fixed_text, help_of, detail, protocol_text, progress_text, refusal_text};
 
 use crate::reading::protocol_error::ProtocolError;
 use crate::reading::word::Word;
 use crate::table::refusal::{Progress, Refusal};
+use crate::table::verb::Verb;
 use crate::writing::lines::put_error;
 use itoa::Buffer;
 use std::alloc::{AllocError, Global};
@@ -102,10 +103,26 @@ fn fixed_text(refusal: &Refusal) -> &'static [u8]
         Refusal::NoProtocol => b"NOPROTO unsupported protocol version",
         Refusal::Protocol(_) => b"ERR Protocol error: ",
         Refusal::UnknownCommand { .. } => b"ERR unknown command '",
+        Refusal::UnknownSubcommand { .. } => b"ERR unknown subcommand '",
         Refusal::WrongNumber(_) => b"ERR wrong number of arguments for '",
+        Refusal::NoTransactions => b"ERR transactions are not served",
+        Refusal::Aborted => b"EXECABORT Transaction discarded because of previous errors.",
+        Refusal::NothingToExecute => b"ERR EXEC without MULTI",
+        Refusal::NothingToDiscard => b"ERR DISCARD without MULTI",
         Refusal::SetFull(_) => b"ERR set is full: it has 1000 members",
         Refusal::StoreFull(_) => b"OOM the node's store is full",
         Refusal::NoAnswer(_) => b"TRYAGAIN no answer in time, it may have acted",
+    }
+}
+
+/// What is told behind the second word of a command that is none of its words.
+fn help_of(verb: Verb) -> &'static [u8]
+    ensures { result.now ≡ help_of verb }
+{
+    match verb {
+        Verb::Client => b"'. Try CLIENT HELP.",
+        Verb::Command => b"'. Try COMMAND HELP.",
+        _ => b"'. Try CONFIG HELP.",
     }
 }
 
@@ -118,6 +135,11 @@ fn detail(alloc: Global, refusal: &Refusal) -> Result<Vec<u8>, AllocError>
         Refusal::UnknownCommand { name } => {
             let mut text = shown(alloc, name)?;
             text.push(b'\'')?;
+            Ok(text)
+        }
+        Refusal::UnknownSubcommand { verb, name } => {
+            let mut text = shown(alloc, name)?;
+            text.extend_from_slice(help_of(*verb))?;
             Ok(text)
         }
         Refusal::WrongNumber(verb) => joined(alloc, verb.text(), b"' command", b""),

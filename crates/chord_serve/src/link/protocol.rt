@@ -1,7 +1,7 @@
 //! What a connection speaks.
-ghost use Rattle.std.specs.Prelude.{◌≡◌, ℕ, List, Bool, ◌++◌, Ok, true, IfErr, OnOk, OnErr};
+ghost use Rattle.std.specs.Prelude.{◌≡◌, ◌<◌, ℕ, List, Bool, ◌++◌, Ok, true, IfErr, OnOk, OnErr};
 ghost use Rattle.chord_serve.specs.Stepping.{AnswersNext, IsBefore};
-ghost use Rattle.chord_serve.specs.declared.link.stage.Step.TheVariants.{Later};
+ghost use Rattle.chord_serve.specs.declared.link.stage.Step.TheVariants.{Answered, Later};
 ghost use Rattle.chord_serve.specs.Ends.{IsStop};
 ghost use Rattle.chord_serve.specs.declared.served.Served.{Served as ServedOf};
 
@@ -35,6 +35,9 @@ pub trait Protocol {
     /// Whether the input may end here.
     ghost between: { Self → Bool };
 
+    /// How many bytes or requests came that are not answered.
+    ghost unread: { Self → ℕ };
+
     /// Whether the input may end here: no request has come in part.
     fn is_between(&self) -> bool
         ensures { result ≡ between self.now };
@@ -53,5 +56,7 @@ pub trait Protocol {
             due.old due.new self.new }
         ensures grows { (bytes : List ℕ) × (due.new ≡ due.old ++ bytes) }
         ensures stop { IfErr result IsStop }
-        ensures patient { result ≡ Ok Later → may_wait ≡ true };
+        ensures patient { result ≡ Ok Later → may_wait ≡ true }
+        ensures shorter { idle self.old → result ≡ Ok Answered
+            → unread self.new < unread self.old };
 }

@@ -5,5 +5,4 @@ mod commands;
 mod foreign;
 mod growths;
 mod links;
-mod parts;
 mod sessions;

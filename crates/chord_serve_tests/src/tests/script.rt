@@ -3,9 +3,9 @@
 
 use super::sessions::joined;
 use chord_serve::{
-    Asker, ClientSession, Parted, ReadSize, Served, greet, serve_session, tell_opened,
+    Asker, ClientSession, FrameProtocol, Parted, ReadSize, Served, drive, tell_opened,
 };
-use chord_serve_testkit::{Cut, MapAsker};
+use chord_serve_testkit::{Cut, MapAsker, greeted};
 use chord_wire::SessionFrames;
 use std::alloc::{AllocError, Global};
 
@@ -162,23 +162,15 @@ pub fn visit<A: Asker + Drop>(
     let mut reader = Cut::new(line.input, line.most_in);
     let mut writer = Cut::new(Vec::new(alloc), line.most_out);
     let mut frames = SessionFrames::new(alloc);
-    let greeted = greet(&mut reader, &mut frames, 10);
-    let is_told = matches!(greeted, Ok(Some(_)))
+    let is_told = greeted(&mut reader, &mut frames, 10).is_some()
         && tell_opened(alloc, &mut writer, &client).is_ok();
-    let (end, left) = if is_told {
-        serve_session(
-            alloc,
-            &mut reader,
-            &mut writer,
-            frames,
-            client,
-            ReadSize::Small,
-            10,
-        )
-    } else {
-        drop(frames);
-        (Served::Write, Parted::Kept(client))
-    };
+    let mut protocol = FrameProtocol::new(frames, client, true);
+    let mut end = Served::Write;
+    if is_told {
+        let small = ReadSize::Small;
+        end = drive(alloc, &mut protocol, &mut reader, &mut writer, small, 10);
+    }
+    let left = protocol.into_parted();
     Visited {
         end,
         written: writer.inner,

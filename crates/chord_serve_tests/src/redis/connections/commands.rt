@@ -1,9 +1,10 @@
 //! Commands, the questions that they ask, and their answers.
 use super::askers::{Script, Scripted, Trouble};
+use super::sessions::{NO_TROUBLE, OneLine};
 use crate::checks::check;
-use chord_map::{Bytes, Request};
-use chord_resp::{Command, Commands};
-use chord_resp_serve::{About, Flow, Numbers, answer_command, answer_words};
+use chord_map::Request;
+use chord_resp_serve::{ServerInfo, serve_commands};
+use chord_serve::{ReadSize, Served};
 use std::alloc::{AllocError, Global};
 
 /// The requests that were asked, as text, and a `!` unless each gave up all before it.
@@ -23,45 +24,24 @@ fn show_requests(text: &mut Vec<u8>, asker: &Scripted) -> Result<(), AllocError>
     text.extend_from_slice(b"!")
 }
 
-/// Answers the commands of the stream up to QUIT or the end of memory, in which case it adds a `#`.
-fn answer_all(
-    alloc: Global,
-    asker: &mut Scripted,
-    out: &mut Vec<u8>,
-    commands: &mut Commands,
-) -> Option<()> {
-    let about = About {
-        number: 7,
-        info: b"a:b\n",
-    };
-    let mut numbers = Numbers { asked: 0 };
-    for _ in 0..100 {
-        let Some(words) = commands.next().ok()? else {
-            return Some(());
-        };
-        match answer_words(alloc, asker, &mut numbers, out, about, words) {
-            Ok(Flow::GoesOn) => {}
-            Ok(Flow::Quits) => return Some(()),
-            Err(_) => {
-                out.extend_from_slice(b"#").ok()?;
-                return Some(());
-            }
-        }
-    }
-    None
-}
-
-/// What is written for the input, and then the questions as text.
+/// What is written for the input, up to QUIT, or to a command without memory, behind which stands a
+/// `#`; and then the questions as text.
 fn answered(alloc: Global, input: &[u8], script: Script) -> Option<Vec<u8>> {
-    let mut commands = Commands::new(alloc);
-    let fed = commands.feed(input);
-    let mut asker = Scripted::new(alloc, script);
+    let server = ServerInfo {
+        number: 7,
+        source: &OneLine,
+    };
     let mut out = Vec::new(alloc);
-    let done = answer_all(alloc, &mut asker, &mut out, &mut commands);
-    let shown = show_requests(&mut out, &asker);
-    drop(commands);
+    let asker = Scripted::new(alloc, script);
+    let small = ReadSize::Small;
+    let (end, asker) = serve_commands(alloc, &mut &*input, &mut out, asker, server, small, 100);
+    let mut shown = Ok(());
+    if end == Served::Memory {
+        shown = out.extend_from_slice(b"#");
+    }
+    let asked = show_requests(&mut out, &asker);
     drop(asker);
-    if fed.is_err() || done.is_none() || shown.is_err() {
+    if shown.is_err() || asked.is_err() {
         drop(out);
         return None;
     }
@@ -75,12 +55,6 @@ fn is_answered(alloc: Global, input: &[u8], script: Script, want: &[u8]) -> Opti
     drop(out);
     Some(is_same)
 }
-
-/// A request that no test asks.
-const NO_TROUBLE: Script = Script {
-    number: 0,
-    trouble: Trouble::Memory,
-};
 
 #[test]
 fn commands_on_sets(rt: HostRuntime) {
@@ -97,13 +71,51 @@ fn commands_that_ask_nothing(rt: HostRuntime) {
     let input =
         b"ping\necho hi\nselect 0\nclient getname\nclient id\ncommand\ncommand count\nconfig get x\ninfo\nget k\nquit\nping\n";
     let want =
-        b"+PONG\r\n$2\r\nhi\r\n+OK\r\n$-1\r\n:7\r\n*0\r\n:17\r\n*0\r\n$4\r\na:b\n\r\n-ERR unknown command 'get'\r\n+OK\r\n";
+        b"+PONG\r\n$2\r\nhi\r\n+OK\r\n$-1\r\n:7\r\n*0\r\n:23\r\n*0\r\n$5\r\na:b\r\n\r\n-ERR unknown command 'get'\r\n+OK\r\n";
     let is_so = is_answered(rt.alloc(), input, NO_TROUBLE, want);
     check!(&rt; is_so == Some(true), "nothing behind QUIT is answered");
     let hello =
         b"*14\r\n$6\r\nserver\r\n$5\r\nchord\r\n$7\r\nversion\r\n$5\r\n7.0.0\r\n$5\r\nproto\r\n:2\r\n$2\r\nid\r\n:7\r\n$4\r\nmode\r\n$10\r\nstandalone\r\n$4\r\nrole\r\n$6\r\nmaster\r\n$7\r\nmodules\r\n*0\r\n";
     let is_so = is_answered(rt.alloc(), b"hello 2\n", NO_TROUBLE, hello);
     check!(&rt; is_so == Some(true), "HELLO");
+}
+
+/// Nothing of a transaction is done, and each of its commands has one answer.
+#[test]
+fn nothing_of_a_transaction_is_done(rt: HostRuntime) {
+    let input =
+        b"multi\nsadd k a\nget\nmulti\nexec\nsadd k b\nmulti\nsrem k b\ndiscard\nmulti\nhello\nreset\nscard k\nexec\ndiscard\nunwatch\nmulti\nquit\nping\n";
+    let mut want = Vec::new(rt.alloc());
+    let refused = b"-ERR transactions are not served\r\n".as_slice();
+    let aborted = b"-EXECABORT Transaction discarded because of previous errors.\r\n".as_slice();
+    let hello =
+        b"*14\r\n$6\r\nserver\r\n$5\r\nchord\r\n$7\r\nversion\r\n$5\r\n7.0.0\r\n$5\r\nproto\r\n:2\r\n$2\r\nid\r\n:7\r\n$4\r\nmode\r\n$10\r\nstandalone\r\n$4\r\nrole\r\n$6\r\nmaster\r\n$7\r\nmodules\r\n*0\r\n".as_slice();
+    for part in [
+        refused,
+        refused,
+        refused,
+        refused,
+        aborted,
+        b":1\r\n",
+        refused,
+        refused,
+        b"+OK\r\n",
+        refused,
+        hello,
+        b"+RESET\r\n",
+        b":1\r\n",
+        b"-ERR EXEC without MULTI\r\n",
+        b"-ERR DISCARD without MULTI\r\n",
+        b"+OK\r\n",
+        refused,
+        b"+OK\r\n+b?",
+    ] {
+        want.extend_from_slice(part)
+            .expect(&rt, "memory for the answers");
+    }
+    let is_so = is_answered(rt.alloc(), input, NO_TROUBLE, &want);
+    drop(want);
+    check!(&rt; is_so == Some(true), "b is the one member that is added");
 }
 
 #[test]
@@ -150,38 +162,5 @@ fn memory_ends_the_connection(rt: HostRuntime) {
     check!(&rt;
         is_so == Some(true),
         "nothing is answered, and nothing more is asked"
-    );
-}
-
-/// What is written for a command that is told whole, and how many requests it asked.
-fn told(alloc: Global, command: Command, want: &[u8]) -> Option<(bool, u64)> {
-    let mut asker = Scripted::new(alloc, NO_TROUBLE);
-    let mut numbers = Numbers { asked: 0 };
-    let about = About {
-        number: 7,
-        info: b"a:b\n",
-    };
-    let mut out = Vec::new(alloc);
-    let result = answer_command(alloc, &mut asker, &mut numbers, &mut out, about, &command);
-    let is_told = result.is_ok() && out.as_slice() == want;
-    drop(out);
-    drop(asker);
-    drop(command);
-    Some((is_told, numbers.asked))
-}
-
-#[test]
-fn one_command_is_answered(rt: HostRuntime) {
-    let alloc = rt.alloc();
-    let number = told(alloc, Command::Number, b":7\r\n");
-    check!(&rt;
-        number == Some((true, 0)),
-        "the connection's number, without a request"
-    );
-    let key = Bytes::from_slice(alloc, b"k").expect(&rt, "memory");
-    let count = told(alloc, Command::Count { key }, b":0\r\n");
-    check!(&rt;
-        count == Some((true, 1)),
-        "the members of a key that has none"
     );
 }

@@ -1,10 +1,12 @@
 //! HTTP and TLS at the port of Redis's protocol: what a page makes a browser write acts on nothing.
 
-use super::parts::fresh;
-use super::sessions::{ANSWERS, COMMANDS};
+use super::askers::Scripted;
+use super::sessions::{ANSWERS, COMMANDS, NO_TROUBLE, OneLine};
 use crate::checks::check;
-use chord_serve::{Due, Served};
+use chord_resp_serve::{CommandProtocol, ServerInfo};
+use chord_serve::{ReadSize, Served, drive};
 use std::alloc::{AllocError, Global};
+use std::io::Read;
 
 /// The methods of HTTP, each in upper, lower and both cases.
 const METHODS: [&[u8]; 27] = [
@@ -53,32 +55,38 @@ const HELLO_1_3: [&[u8]; 13] = [
     b"!{`\xedZ\xd3\xa0\x00\xebx\xc5\x01[",
 ];
 
-/// How a connection ended, if it did, how many requests it asked, and whether it wrote the answers
+/// How a connection ended, or that it goes on, how many requests it asked, and whether it wrote the answers
 /// to the good commands and nothing else.
 #[derive(Clone, Copy, PartialEq, Eq)]
 struct Seen {
-    end: Option<Served>,
+    end: Served,
     asked: usize,
     is_answered: bool,
 }
 
-/// What a connection does that takes these two pieces, of which the second may be empty.
+/// What a connection does that takes these two pieces by one read each, of which the second may be
+/// empty.
 fn by_pieces(alloc: Global, first: &[u8], more: &[u8], answers: &[u8]) -> Seen {
+    let server = ServerInfo {
+        number: 7,
+        source: &OneLine,
+    };
     let mut written = Vec::new(alloc);
-    let mut due = Due::new(alloc);
-    let mut waiting = fresh(alloc);
-    let mut end = waiting
-        .answer_piece(alloc, &mut due, first, &mut written)
-        .err();
-    if end.is_none() && !more.is_empty() {
-        end = waiting
-            .answer_piece(alloc, &mut due, more, &mut written)
-            .err();
-    }
-    let asker = waiting.into_asker();
+    let mut protocol = CommandProtocol::new(alloc, server, Scripted::new(alloc, NO_TROUBLE));
+    let mut reader = first.chain(more);
+    let turns = if more.is_empty() { 1 } else { 2 };
+    let small = ReadSize::Small;
+    let end = drive(
+        alloc,
+        &mut protocol,
+        &mut reader,
+        &mut written,
+        small,
+        turns,
+    );
+    let asker = protocol.into_asker();
     let asked = asker.requests.len();
     drop(asker);
-    drop(due);
     let is_answered = written.as_slice() == answers;
     drop(written);
     Seen {
@@ -101,7 +109,7 @@ fn behind_commands(alloc: Global, parts: &[&[u8]]) -> Result<Vec<u8>, AllocError
 /// are cut; none if it always was that.
 fn wrong_cut(alloc: Global, parts: &[&[u8]]) -> Option<usize> {
     let ended = Seen {
-        end: Some(Served::Foreign),
+        end: Served::Foreign,
         asked: 2,
         is_answered: true,
     };
@@ -135,7 +143,7 @@ fn the_head_of_a_request_acts_on_nothing(rt: HostRuntime) {
     check!(&rt; wrong.is_none(), "a line that begins with host:");
     let seen = by_pieces(rt.alloc(), b"SADD / HTTP/1.1\r\n", host, b":1\r\n");
     let wanted = Seen {
-        end: Some(Served::Foreign),
+        end: Served::Foreign,
         asked: 1,
         is_answered: true,
     };

@@ -5,195 +5,107 @@ use chord_resp::{Command, Commands, Denied, Verb, Word, command_of, is_text, ref
 use std::alloc::{AllocError, Global};
 
 /// A line of a client, and what it calls for, as text.
-struct Row {
-    line: &'static [u8],
-    command: &'static [u8],
-}
+type Row = (&'static [u8], &'static [u8]);
 
 const SETS: [Row; 14] = [
-    Row {
-        line: b"SADD k a\n",
-        command: b"add k a",
-    },
-    Row {
-        line: b"sadd k b a b\n",
-        command: b"add k b a b",
-    },
-    Row {
-        line: b"SReM k a\n",
-        command: b"remove k a",
-    },
-    Row {
-        line: b"smembers k\n",
-        command: b"members k",
-    },
-    Row {
-        line: b"scard k\n",
-        command: b"count k",
-    },
-    Row {
-        line: b"sismember k a\n",
-        command: b"has k a",
-    },
-    Row {
-        line: b"smismember k a b\n",
-        command: b"has each k a b",
-    },
-    Row {
-        line: b"exists k l\n",
-        command: b"exist k l",
-    },
-    Row {
-        line: b"type k\n",
-        command: b"type k",
-    },
-    Row {
-        line: b"sadd k\n",
-        command: b"ERR wrong number of arguments for 'sadd' command",
-    },
-    Row {
-        line: b"Scard\n",
-        command: b"ERR wrong number of arguments for 'scard' command",
-    },
-    Row {
-        line: b"scard k l\n",
-        command: b"ERR wrong number of arguments for 'scard' command",
-    },
-    Row {
-        line: b"exists\n",
-        command: b"ERR wrong number of arguments for 'exists' command",
-    },
-    Row {
-        line: b"sismember k a b\n",
-        command: b"ERR wrong number of arguments for 'sismember' command",
-    },
+    (b"SADD k a\n", b"add k a"),
+    (b"sadd k b a b\n", b"add k b a b"),
+    (b"SReM k a\n", b"remove k a"),
+    (b"smembers k\n", b"members k"),
+    (b"scard k\n", b"count k"),
+    (b"sismember k a\n", b"has k a"),
+    (b"smismember k a b\n", b"has each k a b"),
+    (b"exists k l\n", b"exist k l"),
+    (b"type k\n", b"type k"),
+    (
+        b"sadd k\n",
+        b"ERR wrong number of arguments for 'sadd' command",
+    ),
+    (
+        b"Scard\n",
+        b"ERR wrong number of arguments for 'scard' command",
+    ),
+    (
+        b"scard k l\n",
+        b"ERR wrong number of arguments for 'scard' command",
+    ),
+    (
+        b"exists\n",
+        b"ERR wrong number of arguments for 'exists' command",
+    ),
+    (
+        b"sismember k a b\n",
+        b"ERR wrong number of arguments for 'sismember' command",
+    ),
 ];
 
-const OTHERS: [Row; 31] = [
-    Row {
-        line: b"PING\n",
-        command: b"ping",
-    },
-    Row {
-        line: b"ping hello\n",
-        command: b"echo hello",
-    },
-    Row {
-        line: b"ping a b\n",
-        command: b"ERR wrong number of arguments for 'ping' command",
-    },
-    Row {
-        line: b"echo hello\n",
-        command: b"echo hello",
-    },
-    Row {
-        line: b"echo\n",
-        command: b"ERR wrong number of arguments for 'echo' command",
-    },
-    Row {
-        line: b"select 0\n",
-        command: b"ok",
-    },
-    Row {
-        line: b"select 1\n",
-        command: b"ERR DB index is out of range",
-    },
-    Row {
-        line: b"client setname x\n",
-        command: b"ok",
-    },
-    Row {
-        line: b"client SETINFO lib-name x\n",
-        command: b"ok",
-    },
-    Row {
-        line: b"client no-evict on\n",
-        command: b"ok",
-    },
-    Row {
-        line: b"client no-touch on\n",
-        command: b"ok",
-    },
-    Row {
-        line: b"client setinfo x\n",
-        command: b"ERR wrong number of arguments for 'client' command",
-    },
-    Row {
-        line: b"client getname\n",
-        command: b"name",
-    },
-    Row {
-        line: b"client id\n",
-        command: b"number",
-    },
-    Row {
-        line: b"CLIENT kill x\n",
-        command: b"ERR unknown command 'CLIENT'",
-    },
-    Row {
-        line: b"client\n",
-        command: b"ERR wrong number of arguments for 'client' command",
-    },
-    Row {
-        line: b"hello\n",
-        command: b"hello",
-    },
-    Row {
-        line: b"hello 2\n",
-        command: b"hello",
-    },
-    Row {
-        line: b"hello 3\n",
-        command: b"NOPROTO unsupported protocol version",
-    },
-    Row {
-        line: b"command\n",
-        command: b"nothing",
-    },
-    Row {
-        line: b"command docs ping\n",
-        command: b"nothing",
-    },
-    Row {
-        line: b"command info ping echo\n",
-        command: b"nothing",
-    },
-    Row {
-        line: b"command count\n",
-        command: b"commands",
-    },
-    Row {
-        line: b"command list\n",
-        command: b"ERR unknown command 'command'",
-    },
-    Row {
-        line: b"config get save\n",
-        command: b"nothing",
-    },
-    Row {
-        line: b"config set save x\n",
-        command: b"ERR unknown command 'config'",
-    },
-    Row {
-        line: b"info\n",
-        command: b"info",
-    },
-    Row {
-        line: b"info server\n",
-        command: b"info",
-    },
-    Row {
-        line: b"quit\n",
-        command: b"quit",
-    },
-    Row {
-        line: b"get k\n",
-        command: b"ERR unknown command 'get'",
-    },
-    Row {
-        line: b"sad\x01d\x7f k\n",
-        command: b"ERR unknown command 'sad?d?'",
-    },
+const OTHERS: [Row; 39] = [
+    (b"PING\n", b"ping"),
+    (b"ping hello\n", b"echo hello"),
+    (
+        b"ping a b\n",
+        b"ERR wrong number of arguments for 'ping' command",
+    ),
+    (b"echo hello\n", b"echo hello"),
+    (
+        b"echo\n",
+        b"ERR wrong number of arguments for 'echo' command",
+    ),
+    (b"select 0\n", b"ok"),
+    (b"select 1\n", b"ERR DB index is out of range"),
+    (b"client setname x\n", b"ok"),
+    (b"client SETINFO lib-name x\n", b"ok"),
+    (b"client no-evict on\n", b"ok"),
+    (b"client no-touch on\n", b"ok"),
+    (
+        b"client setinfo x\n",
+        b"ERR wrong number of arguments for 'client' command",
+    ),
+    (b"client getname\n", b"name"),
+    (b"client id\n", b"number"),
+    (
+        b"CLIENT kill x\n",
+        b"ERR unknown subcommand 'kill'. Try CLIENT HELP.",
+    ),
+    (
+        b"client\n",
+        b"ERR wrong number of arguments for 'client' command",
+    ),
+    (b"hello\n", b"hello"),
+    (b"hello 2\n", b"hello"),
+    (b"hello 3\n", b"NOPROTO unsupported protocol version"),
+    (b"command\n", b"nothing"),
+    (b"command docs ping\n", b"nothing"),
+    (b"command info ping echo\n", b"nothing"),
+    (b"command count\n", b"commands"),
+    (
+        b"command list\n",
+        b"ERR unknown subcommand 'list'. Try COMMAND HELP.",
+    ),
+    (b"config get save\n", b"nothing"),
+    (
+        b"config set save x\n",
+        b"ERR unknown subcommand 'set'. Try CONFIG HELP.",
+    ),
+    (b"info\n", b"info"),
+    (b"info server\n", b"info"),
+    (b"quit\n", b"quit"),
+    (b"reset\n", b"reset"),
+    (b"MULTI\n", b"multi"),
+    (b"exec\n", b"exec"),
+    (b"discard\n", b"discard"),
+    (b"watch k l\n", b"ERR transactions are not served"),
+    (
+        b"watch\n",
+        b"ERR wrong number of arguments for 'watch' command",
+    ),
+    (b"unwatch\n", b"ok"),
+    (
+        b"multi 1\n",
+        b"ERR wrong number of arguments for 'multi' command",
+    ),
+    (b"get k\n", b"ERR unknown command 'get'"),
+    (b"sad\x01d\x7f k\n", b"ERR unknown command 'sad?d?'"),
 ];
 
 fn show_all(text: &mut Vec<u8>, values: &Values) -> Result<(), AllocError> {
@@ -246,6 +158,10 @@ fn show_command(text: &mut Vec<u8>, command: &Command) -> Result<(), AllocError>
         Command::Commands => text.extend_from_slice(b"commands"),
         Command::Info => text.extend_from_slice(b"info"),
         Command::Quit => text.extend_from_slice(b"quit"),
+        Command::Reset => text.extend_from_slice(b"reset"),
+        Command::Multi => text.extend_from_slice(b"multi"),
+        Command::Exec => text.extend_from_slice(b"exec"),
+        Command::Discard => text.extend_from_slice(b"discard"),
     }
 }
 
@@ -287,17 +203,15 @@ fn is_command(alloc: Global, bytes: &[u8], command: &[u8]) -> bool {
 
 #[test]
 fn commands_on_sets(rt: HostRuntime) {
-    for (place, row) in SETS.iter().enumerate() {
-        let is_so = is_command(rt.alloc(), row.line, row.command);
-        assert!(rt; is_so, "row {place}");
+    for (line, command) in SETS {
+        assert!(rt; is_command(rt.alloc(), line, command), "{line:?}");
     }
 }
 
 #[test]
 fn other_commands(rt: HostRuntime) {
-    for (place, row) in OTHERS.iter().enumerate() {
-        let is_so = is_command(rt.alloc(), row.line, row.command);
-        assert!(rt; is_so, "row {place}");
+    for (line, command) in OTHERS {
+        assert!(rt; is_command(rt.alloc(), line, command), "{line:?}");
     }
 }
 

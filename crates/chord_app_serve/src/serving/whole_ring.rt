@@ -1,0 +1,8 @@
+//! The end of a server's ring.
+
+/// A ring that ended. One look at all its nodes and callers proved that they are a reachable world.
+#[derive(Clone, Copy, Debug, PartialEq, Eq)]
+pub struct WholeRing {
+    /// How many callers it had.
+    pub callers: usize,
+}
