@@ -20,6 +20,7 @@ import socket
 import subprocess
 import sys
 import tempfile
+import threading
 import time
 
 NODES, CRASHED = 16, 15
@@ -165,6 +166,7 @@ def main():
         try:
             first, second = server.stdout.readline(), server.stdout.readline()
             port, operator = (int(it.rsplit(":", 1)[1]) for it in (first, second))
+            threading.Thread(target=server.stdout.read, daemon=True).start()
             time.sleep(3)
             is_well = measure("alone", port, seconds, clients, [])
             is_well &= measure(f"beside {SLOW} slow ones", port, seconds, clients, [slow])
