@@ -14,7 +14,7 @@ use chord_app_options::{
 use chord_app_plan::{Plan, PlanFault, Settings, StoreKind, read_plan};
 use chord_app_serve::{ServerStores, open_files, run, serve, stay};
 use chord_app_sockets::{
-    ClientSeconds, Doors, Host, OperatorPort, ProcessFiles, ServerSetup, listen,
+    ClientLimits, Doors, Host, OperatorPort, ProcessFiles, ServerSetup, listen,
 };
 use chord_app_text::Finish;
 use chord_app_world::{empty_ones, world};
@@ -30,8 +30,8 @@ use std::thread::Threads;
 use std::time::Clock;
 use std::{env, fs, io};
 
-/// How many files a server has open at most beside the connections of its clients: doors, operators,
-/// and two for each event loop.
+/// How many files a server has open at most beside the connections of its clients: doors,
+/// operators, and two for each event loop.
 const OTHER_FILES: u64 = 128;
 
 /// Does the command `world`.
@@ -79,8 +79,8 @@ struct ServeOptions<'a> {
     redis: Option<TcpListener>,
     /// How many connections it serves; with none it serves until standard input ends.
     connections: Option<usize>,
-    /// For how many seconds it waits for clients if the server stays.
-    seconds: ClientSeconds,
+    /// What its clients are allowed if the server stays.
+    limits: ClientLimits,
     /// Where it serves operators, if it does.
     operator: Option<OperatorDoor>,
     notes: Logged<&'a HostRuntime, &'a HostRuntime>,
@@ -240,7 +240,7 @@ fn serve_over<'a, T: Host>(
             threads,
             &setup,
             stores,
-            options.seconds,
+            options.limits,
             rt.stdin(),
             rt.stdout(),
         )?,
@@ -259,7 +259,7 @@ fn warn_of_files(rt: &HostRuntime, callers: usize) -> Result<(), Finish> {
     match most {
         Some(most) if most < (callers as u64).saturating_add(OTHER_FILES) => {
             eprintln!(rt;
-                "warning: at most {most} files may be open, too few for {callers} clients at once: raise that by ulimit -n"
+                "warning: {most} files may be open (ulimit -n), too few for {callers} clients"
             )?;
             Ok(())
         }
@@ -287,9 +287,10 @@ fn start_serve<T: Host>(
         frames,
         redis,
         connections: line.connections,
-        seconds: ClientSeconds {
+        limits: ClientLimits {
             idle: line.idle,
             keep: line.keep,
+            buffers: line.buffers,
         },
         operator,
         notes: Logged::new(rt, level, rt),

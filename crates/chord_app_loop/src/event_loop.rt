@@ -1,5 +1,6 @@
 //! The thread that serves all connections that came to it.
 
+use crate::budget::SMALL_BYTES;
 use crate::closing::Closing;
 use crate::guest::{Guest, LATE_MILLISECONDS};
 use crate::loops::{Coming, Loops, WAKE, Waits};
@@ -27,7 +28,7 @@ const POLLS: u32 = 100;
 /// another one.
 const BUSY_WAITS: u32 = 256;
 
-/// How many milliseconds lie between two looks for silent clients.
+/// How many milliseconds lie between two looks at all connections.
 const LOOK_MILLISECONDS: u64 = 1_000 / LOOKS_A_SECOND;
 
 /// How many milliseconds lie between two meetings of a connection that waits.
@@ -77,8 +78,12 @@ pub(crate) struct EventLoop<'l, R, O, P: Protocol, S: Stream> {
     polls: u32,
     /// How many waits in a row found something at once.
     busy_waits: u32,
-    /// When it last looked for silent clients.
+    /// When it last looked for silent clients, and at what its connections hold.
     looked: Option<Instant>,
+    /// Whether some connections may be held back.
+    holds_back: bool,
+    /// How many looks in a row found that all connections hold too much.
+    over_looks: u64,
 }
 
 impl<'l, R, O, P: Protocol, S: Stream> EventLoop<'l, R, O, P, S> {
@@ -102,6 +107,8 @@ impl<'l, R, O, P: Protocol, S: Stream> EventLoop<'l, R, O, P, S> {
             polls: 0,
             busy_waits: 0,
             looked: None,
+            holds_back: false,
+            over_looks: 0,
         })
     }
 
@@ -145,10 +152,10 @@ impl<R: Clock, O, P: Protocol, S: Stream> EventLoop<'_, R, O, P, S> {
             return Some(Duration::ZERO);
         }
         let look = Duration::from_millis(LOOK_MILLISECONDS);
-        let longest = if self.setting.loops.rules.idle.is_some() && !self.places.is_empty() {
-            Some(look)
-        } else {
+        let longest = if self.places.is_empty() {
             None
+        } else {
+            Some(look)
         };
         let Some((first, _)) = self.timer.first() else {
             return longest;
@@ -195,7 +202,7 @@ impl<R: Clock, O, P: Protocol, S: Stream> EventLoop<'_, R, O, P, S> {
         }
     }
 
-    /// Notes that the connection of this key, which begins, is met in so many milliseconds. Says
+    /// Notes that the connection of this key, which begins, is met after this many milliseconds. Says
     /// false if that cannot be.
     fn meet_later(&mut self, key: usize, milliseconds: u64) -> bool {
         let Some(now) = self.now() else {
@@ -257,6 +264,7 @@ impl<R: Clock, O: Owner<P, S>, P: Protocol + Drop, S: Stream + AsRawFd + Drop> E
             }
             Place::Served(seat) => {
                 self.deregister(seat.as_raw_fd());
+                self.setting.owner.budget().note(seat.held, 0);
                 let (number, stream, protocol) = seat.into_parts();
                 self.leave(number, stream, ended, Some(protocol));
             }
@@ -397,7 +405,11 @@ impl<R: Clock, O: Owner<P, S>, P: Protocol + Drop, S: Stream + AsRawFd + Drop> E
     /// is told at once that its request has no answer.
     fn drive(&mut self, key: usize) {
         let driven = match self.places.get_mut(key) {
-            Some(Place::Served(seat)) => seat.drive(&mut self.buffer),
+            Some(Place::Served(seat)) => {
+                let driven = seat.drive(&mut self.buffer, self.setting.owner.budget());
+                self.holds_back |= seat.is_held_back;
+                driven
+            }
             Some(Place::Begins(_)) => return self.hear(key),
             Some(Place::Closing(_)) => return self.drop_input(key),
             Some(Place::Empty) | None => return,
@@ -411,6 +423,7 @@ impl<R: Clock, O: Owner<P, S>, P: Protocol + Drop, S: Stream + AsRawFd + Drop> E
                     self.go_on_later(key);
                 }
             }
+            Driven::Holds => self.end_at(key, Ended::Served(Served::Memory)),
             Driven::Ended(ended) => self.end_at(key, ended),
         }
     }
@@ -509,20 +522,63 @@ impl<R: Clock, O: Owner<P, S>, P: Protocol + Drop, S: Stream + AsRawFd + Drop> E
         }
     }
 
-    /// Looks for silent clients, once in a while.
-    fn look(&mut self) {
-        let Some(most) = self.setting.loops.rules.most_looks() else {
+    /// Drives the connections that were held back.
+    fn drive_held_back(&mut self) {
+        if !mem::replace(&mut self.holds_back, false) {
             return;
-        };
+        }
+        for key in 0..self.places.capacity() {
+            match self.places.get(key) {
+                Some(Place::Served(seat)) if seat.is_held_back => self.drive(key),
+                _ => {}
+            }
+        }
+    }
+
+    /// The connection that holds the most, and how many bytes.
+    fn largest(&self) -> (usize, u64) {
+        let mut largest = (0, 0);
+        for key in 0..self.places.capacity() {
+            match self.places.get(key) {
+                Some(Place::Served(seat)) if seat.held > largest.1 => largest = (key, seat.held),
+                _ => {}
+            }
+        }
+        largest
+    }
+
+    /// Where all connections hold too much for a second, ends the one that holds the most. Where they
+    /// do no more, goes on with those that were held back.
+    fn look_at_memory(&mut self) {
+        let budget = self.setting.owner.budget();
+        if !budget.is_over() {
+            self.over_looks = 0;
+            self.drive_held_back();
+            return;
+        }
+        self.over_looks = self.over_looks.saturating_add(1);
+        let (key, bytes) = self.largest();
+        budget.note_most(bytes);
+        if self.over_looks > LOOKS_A_SECOND && bytes > SMALL_BYTES && budget.is_largest(bytes) {
+            self.end_at(key, Ended::Served(Served::Memory));
+        }
+    }
+
+    /// Looks for silent clients, and at what all hold, once in a while.
+    fn look(&mut self) {
         let Some(now) = self.now() else {
             return;
         };
         let looked = self.looked.unwrap_or(now);
         self.looked = Some(looked);
-        if now.duration_since(looked) >= Duration::from_millis(LOOK_MILLISECONDS) {
-            self.looked = Some(now);
+        if now.duration_since(looked) < Duration::from_millis(LOOK_MILLISECONDS) {
+            return;
+        }
+        self.looked = Some(now);
+        if let Some(most) = self.setting.loops.rules.most_looks() {
             self.end_silent(most);
         }
+        self.look_at_memory();
     }
 
     /// Ends the input of all connections.

@@ -2,11 +2,12 @@
 //!
 //! An event loop waits for the streams of all its connections at once, reads what came, has each
 //! [`Link`](chord_serve::Link) answer, and writes. A connection whose next request waits is tried
-//! again later, and no other one waits for it. An [`Owner`] says which link serves a connection that
-//! begins ([`Guest`]). All connections begin on the first loop ([`Loops`]); where that does not sleep
-//! any more it gives some of them to the others.
+//! again later, and no other one waits for it. An [`Owner`] says which link serves a connection
+//! that begins ([`Guest`]). All connections begin on the first loop ([`Loops`]); where that does
+//! not sleep any more it gives some of them to the others. A [`Budget`] limits what all hold.
 #![tactic(auto)]
 
+mod budget;
 mod closing;
 mod event_loop;
 mod guest;
@@ -17,6 +18,7 @@ mod seat;
 mod socket;
 mod timer;
 
+pub use budget::Budget;
 pub use guest::Guest;
 pub use loops::Loops;
 pub use owner::{Met, Owner};

@@ -1,5 +1,6 @@
 //! Whose connections event loops serve.
 
+use crate::budget::Budget;
 use crate::guest::Guest;
 use chord_app_sockets::Ended;
 use chord_serve::{Link, Protocol, Stream};
@@ -31,4 +32,7 @@ pub trait Owner<P: Protocol, S: Stream> {
 
     /// Whether all connections are to end.
     fn wants_end(&self) -> bool;
+
+    /// How much its connections may hold.
+    fn budget(&self) -> &Budget;
 }

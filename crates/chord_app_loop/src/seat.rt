@@ -4,6 +4,7 @@ ghost use Rattle.chord_app_sockets.specs.declared.ended.Ended.{Ended as EndedOf}
 ghost use Rattle.chord_serve.specs.declared.link.stage.Stage.TheVariants.{Over};
 ghost use Rattle.chord_serve.specs.declared.served.Served.{Served as ServedOf};
 
+use crate::budget::{Budget, SMALL_BYTES};
 use crate::rules::Rules;
 use chord_app_sockets::Ended;
 use chord_serve::{Link, Protocol, Served, Stream};
@@ -29,6 +30,8 @@ pub(crate) enum Driven {
     Again,
     /// Once it is tried again.
     Waits,
+    /// It holds too much, and is to be ended.
+    Holds,
     /// It ended so.
     Ended(Ended),
 }
@@ -87,6 +90,12 @@ pub(crate) struct Seat<P: Protocol, S: Stream> {
     pub time: Option<Instant>,
     /// How many looks in a row found its client silent.
     looks: u64,
+    /// How many bytes came that are not answered.
+    input: u64,
+    /// How many bytes it holds, as the budget counts them.
+    pub held: u64,
+    /// Whether it is not read, since all connections hold too much.
+    pub is_held_back: bool,
 }
 
 impl<P: Protocol, S: Stream> Seat<P, S> {
@@ -103,6 +112,9 @@ impl<P: Protocol, S: Stream> Seat<P, S> {
             waits_since: None,
             time: None,
             looks: 0,
+            input: 0,
+            held: 0,
+            is_held_back: false,
         }
     }
 
@@ -137,13 +149,14 @@ impl<P: Protocol, S: Stream> Seat<P, S> {
     /// Reads once, if there may be something. Behind less than the buffer takes there is no more, but
     /// for the end.
     fn read(&mut self, buffer: &mut [u8]) {
-        if !self.may_read || self.turns == 0 || !self.link.wants_read() {
+        if !self.may_read || self.is_held_back || self.turns == 0 || !self.link.wants_read() {
             return;
         }
         match self.link.read_from(buffer) {
             Ok(count) => {
                 self.looks = 0;
                 self.turns -= 1;
+                self.input = self.input.saturating_add(count as u64);
                 self.may_read = self.is_last || count == buffer.len();
             }
             Err(error) => self.may_read = error.kind() == ErrorKind::Interrupted,
@@ -185,13 +198,39 @@ impl<P: Protocol, S: Stream> Seat<P, S> {
     /// Whether it has more to do at once.
     fn goes_on(&self) -> bool {
         self.link.wants_advance()
-            || (self.may_read && self.link.wants_read())
+            || (self.may_read && !self.is_held_back && self.link.wants_read())
             || (self.may_write && self.link.wants_write())
     }
 
-    /// Reads, answers and writes, for some rounds.
-    pub fn drive(&mut self, buffer: &mut [u8]) -> Driven
+    /// Tells the budget what it holds now.
+    fn count(&mut self, budget: &Budget)
+        ensures { self.new ≡ record self.old { input = self.new.input; held = self.new.held } }
+    {
+        if !self.link.waits() && !self.link.wants_advance() {
+            self.input = self.link.partial();
+        }
+        let held = self.input.saturating_add(self.link.unwritten());
+        budget.note(self.held, held);
+        self.held = held;
+    }
+
+    /// Reads, answers and writes, for some rounds, within what all connections may hold.
+    pub fn drive(&mut self, buffer: &mut [u8], budget: &Budget) -> Driven
         // All is written where it ended, or its client takes no more.
+        ensures over { (end : EndedOf) → result ≡ Driven.Ended end → (self.new.is_shut ≡ true)
+            ⊎ ((self.new.link.machine.is_lost ≡ true) ⊎ (self.new.link.machine.due ≡ [])) }
+    {
+        self.is_held_back = self.held > SMALL_BYTES && budget.is_over();
+        let driven = self.drive_rounds(buffer);
+        self.count(budget);
+        if self.held > SMALL_BYTES && budget.is_far_over() && !matches!(driven, Driven::Ended(_)) {
+            return Driven::Holds;
+        }
+        driven
+    }
+
+    /// Reads, answers and writes, for some rounds.
+    fn drive_rounds(&mut self, buffer: &mut [u8]) -> Driven
         ensures over { (end : EndedOf) → result ≡ Driven.Ended end → (self.new.is_shut ≡ true)
             ⊎ ((self.new.link.machine.is_lost ≡ true) ⊎ (self.new.link.machine.due ≡ [])) }
     {
@@ -260,6 +299,9 @@ impl<P: Protocol, S: Stream + Drop> Seat<P, S> {
             waits_since: _,
             time: _,
             looks: _,
+            input: _,
+            held: _,
+            is_held_back: _,
         } = self;
         (number, stream, link.into_protocol())
     }

@@ -4,6 +4,8 @@
 #[cfg(test)]
 mod askers;
 #[cfg(test)]
+mod budgets;
+#[cfg(test)]
 mod checks;
 #[cfg(test)]
 mod parties;

@@ -1,7 +1,7 @@
 //! Who takes part in a test: clients, their connections, and event loops.
 
 use crate::askers::LateAsker;
-use chord_app_loop::{Guest, Loops, Met, Owner, Rules, Socket};
+use chord_app_loop::{Budget, Guest, Loops, Met, Owner, Rules, Socket};
 use chord_app_sockets::{Clients, Ended};
 use chord_resp_serve::{CommandProtocol, Informs, ServerInfo};
 use chord_serve::{Link, ReadSize, Served};
@@ -39,6 +39,7 @@ pub struct House<'t, R> {
     pub misses: u32,
     /// How connections ended.
     ends: Mutex<Vec<(u64, Ended)>>,
+    budget: Budget,
 }
 
 impl<'t, R: Wait> House<'t, R> {
@@ -48,6 +49,7 @@ impl<'t, R: Wait> House<'t, R> {
         clients: &'t Clients,
         source: &'t Silent,
         misses: u32,
+        most_bytes: u64,
     ) -> House<'t, R> {
         House {
             rt,
@@ -56,7 +58,13 @@ impl<'t, R: Wait> House<'t, R> {
             source,
             misses,
             ends: Mutex::new(Vec::new(alloc)),
+            budget: Budget::new(most_bytes),
         }
+    }
+
+    /// How many bytes its connections hold.
+    pub fn held(&self) -> u64 {
+        self.budget.held()
     }
 
     /// How the connection of this number ended, if it did.
@@ -92,7 +100,14 @@ impl<'t, R: Wait> Owner<Commands<'t>, Socket<'t>> for House<'t, R> {
     fn wants_end(&self) -> bool {
         self.clients.are_told_to_end()
     }
+
+    fn budget(&self) -> &Budget {
+        &self.budget
+    }
 }
+
+/// No test holds this many bytes unless it is about that.
+pub const AMPLE: u64 = 268_435_456;
 
 /// The rules of a server that stays: requests wait for `patience` milliseconds.
 pub fn rules(patience: u64) -> Rules {

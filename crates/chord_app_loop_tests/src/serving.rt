@@ -1,7 +1,7 @@
 //! How connections are served, and how they end.
 
 use crate::checks::check;
-use crate::parties::{House, Silent, beside, connect, rules};
+use crate::parties::{AMPLE, House, Silent, beside, connect, rules};
 use chord_app_loop::{Loops, Rules};
 use chord_app_sockets::{Clients, Ended};
 use chord_serve::{ReadSize, Served};
@@ -86,7 +86,7 @@ fn visit_all<R: Threads + Wait + Clock + Net<Listener = TcpListener, Stream = Tc
     alloc: Global,
 ) -> io::Result<bool> {
     let (clients, source) = (Clients::new(alloc), Silent);
-    let house = House::new(rt, alloc, &clients, &source, 3);
+    let house = House::new(rt, alloc, &clients, &source, 3, AMPLE);
     let loops = Loops::open(rt, alloc, rules(10_000), 1)?;
     let visited = beside(rt, &house, &loops, || {
         for (number, (bytes, ends, answers, _)) in ROWS.iter().enumerate() {
@@ -116,7 +116,7 @@ fn end_of_three<R: Threads + Wait + Clock + Net<Listener = TcpListener, Stream =
     answered: u64,
 ) -> io::Result<Option<Ended>> {
     let (clients, source) = (Clients::new(alloc), Silent);
-    let house = House::new(rt, alloc, &clients, &source, 0);
+    let house = House::new(rt, alloc, &clients, &source, 0, AMPLE);
     let loops = Loops::open(rt, alloc, rules, 1)?;
     let visited = beside(rt, &house, &loops, || {
         let mut client = connect(&house, &loops, 7)?;
@@ -135,7 +135,7 @@ fn end_of_three<R: Threads + Wait + Clock + Net<Listener = TcpListener, Stream =
     visited.map(|()| end)
 }
 
-/// A connection has so many reads, and its client may be silent for so long.
+/// The number of reads of a connection is limited, and how long its client may be silent.
 #[test]
 fn reads_and_patience_are_limited(rt: HostRuntime) {
     let few = Rules {
@@ -154,14 +154,14 @@ fn reads_and_patience_are_limited(rt: HostRuntime) {
     check!(&rt; silent.is_ok_and(|end| end == Some(Ended::Idle)));
 }
 
-/// Sends so many commands at once, and reads their answers behind them all.
+/// Sends this many commands at once, and reads their answers behind them all.
 fn pipe<R: Threads + Wait + Clock + Net<Listener = TcpListener, Stream = TcpStream> + Sync>(
     rt: &R,
     alloc: Global,
     commands: usize,
 ) -> io::Result<Option<Ended>> {
     let (clients, source) = (Clients::new(alloc), Silent);
-    let house = House::new(rt, alloc, &clients, &source, 0);
+    let house = House::new(rt, alloc, &clients, &source, 0, AMPLE);
     let loops = Loops::open(rt, alloc, rules(1_000), 1)?;
     let visited = beside(rt, &house, &loops, || {
         let mut client = connect(&house, &loops, 7)?;

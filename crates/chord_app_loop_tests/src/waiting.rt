@@ -1,7 +1,7 @@
 //! Connections whose requests wait, beside others.
 
 use crate::checks::check;
-use crate::parties::{House, Silent, beside, connect, rules};
+use crate::parties::{AMPLE, House, Silent, beside, connect, rules};
 use chord_app_loop::Loops;
 use chord_app_sockets::{Clients, Ended};
 use chord_serve::Served;
@@ -32,7 +32,7 @@ fn ask_beside<R: Threads + Wait + Clock + Net<Listener = TcpListener, Stream = T
     alloc: Global,
 ) -> io::Result<bool> {
     let (clients, source) = (Clients::new(alloc), Silent);
-    let house = House::new(rt, alloc, &clients, &source, u32::MAX);
+    let house = House::new(rt, alloc, &clients, &source, u32::MAX, AMPLE);
     let loops = Loops::open(rt, alloc, rules(2_000), 1)?;
     let asked = beside(rt, &house, &loops, || {
         let mut first = connect(&house, &loops, 0)?;
@@ -65,7 +65,7 @@ fn ends_when_told<
     R: Threads + Wait + Clock + Net<Listener = TcpListener, Stream = TcpStream> + Sync,
 >(rt: &R, alloc: Global) -> io::Result<[Option<Ended>; 3]> {
     let (clients, source) = (Clients::new(alloc), Silent);
-    let house = House::new(rt, alloc, &clients, &source, u32::MAX);
+    let house = House::new(rt, alloc, &clients, &source, u32::MAX, AMPLE);
     let loops = Loops::open(rt, alloc, rules(60_000), 1)?;
     let told = beside(rt, &house, &loops, || {
         let mut silent = connect(&house, &loops, 0)?;

@@ -75,6 +75,20 @@ const CALLERS: NumberOption = NumberOption {
     ..SLOTS
 };
 
+/// How many megabytes connections may hold if the command line does not say.
+const BUFFER_MEGABYTES: u64 = 256;
+
+/// How many bytes a megabyte has.
+const MEGABYTE: u64 = 1_048_576;
+
+const BUFFERS: NumberOption = NumberOption {
+    name: "buffers",
+    value_name: "MB",
+    most: 65_536,
+    help: "With --stay: how many megabytes all connections may hold, 1 to 65536, else 256",
+    ..SLOTS
+};
+
 /// The help of `--stay`.
 const STAY: &str = "Serves until standard input ends";
 
@@ -117,7 +131,11 @@ pub fn serve_command<'a>(alloc: Global) -> Result<Command<'a>, AllocError> {
     let serve = with_numbers(alloc, serve, &[PORT, REDIS, CONNECTIONS]);
     let serve = with_argument(serve, flag(alloc, "stay", STAY));
     let serve = with_argument(serve, flag(alloc, "notes", NOTES));
-    let serve = with_staying(alloc, serve, &[IDLE, KEEP, OPERATOR, SLOTS, CALLERS]);
+    let serve = with_staying(
+        alloc,
+        serve,
+        &[IDLE, KEEP, OPERATOR, SLOTS, CALLERS, BUFFERS],
+    );
     let serve = with_group(serve, ports_group(alloc));
     with_group(serve, until_group(alloc))
 }
@@ -143,6 +161,9 @@ pub struct ServeLine<'a> {
     pub slots: Option<usize>,
     /// How many callers there may be, where the command line says so in place of the plan.
     pub callers: Option<usize>,
+    /// How many bytes all connections may hold if the server stays, of requests that are not answered
+    /// and of answers that are not written.
+    pub buffers: u64,
     /// Whether each connection's end is noted on standard error.
     pub notes: bool,
 }
@@ -183,6 +204,10 @@ fn read<'a>(found: &ArgMatches<'a>) -> Result<ServeLine<'a>, WrongNumber<'a>> {
         operator: port_at(OPERATOR, found)?,
         slots: count_at(SLOTS, found)?,
         callers: count_at(CALLERS, found)?,
+        buffers: BUFFERS
+            .read_if_there(found)?
+            .unwrap_or(BUFFER_MEGABYTES)
+            .saturating_mul(MEGABYTE),
         notes: found.get_flag("notes"),
     })
 }

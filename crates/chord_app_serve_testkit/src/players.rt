@@ -3,7 +3,7 @@
 use crate::handle::Handle;
 use crate::plans::plan_with;
 use crate::servers::{Ending, Found, Size, Written, all_bound, end_waiting, look_at, serve_at};
-use chord_app_sockets::ClientSeconds;
+use chord_app_sockets::ClientLimits;
 use chord_serve_testkit::{Acts, Addresses, Script, do_acts_at};
 use log::Log;
 use log::sink::Discard;
@@ -13,10 +13,11 @@ use std::net::{Net, TcpListener, TcpStream};
 use std::thread;
 use std::time::{Clock, Duration};
 
-/// For how many seconds a server waits for clients: no test leaves them idle for as long.
-pub const WAITS: ClientSeconds = ClientSeconds {
+/// What a server allows its clients: no test leaves them idle for as long, or has them hold as much.
+pub const WAITS: ClientLimits = ClientLimits {
     idle: 300,
     keep: 600,
+    buffers: 268_435_456,
 };
 
 /// What a server wrote, and what was told by who asked it.
@@ -57,7 +58,7 @@ pub fn stay_beside<
 >(
     rt: &R,
     alloc: Global,
-    server: (Size, ClientSeconds),
+    server: (Size, ClientLimits),
     notes: &L,
     pipe: (PipeReader, PipeWriter),
     play: F,
@@ -95,7 +96,7 @@ fn act<R: Net + Clock>(
 pub fn follow<R: Handle + Net<Listener = TcpListener, Stream = TcpStream>>(
     rt: &R,
     alloc: Global,
-    server: (Size, ClientSeconds),
+    server: (Size, ClientLimits),
     script: Script,
     pipe: (PipeReader, PipeWriter),
     lines: &str,
@@ -107,7 +108,7 @@ pub fn follow<R: Handle + Net<Listener = TcpListener, Stream = TcpStream>>(
 pub fn follow_noted<R: Handle + Net<Listener = TcpListener, Stream = TcpStream>, L: Log + Sync>(
     rt: &R,
     alloc: Global,
-    (size, seconds): (Size, ClientSeconds),
+    (size, seconds): (Size, ClientLimits),
     notes: &L,
     script: Script,
     (input, end): (PipeReader, PipeWriter),

@@ -3,7 +3,7 @@
 use crate::plans::{stores, two_stores};
 use chord_app_plan::Plan;
 use chord_app_serve::{ServerStores, WholeRing, serve, stay};
-use chord_app_sockets::{ClientSeconds, Doors, Host, OperatorPort, ServerSetup};
+use chord_app_sockets::{ClientLimits, Doors, Host, OperatorPort, ServerSetup};
 use chord_app_text::Finish;
 use chord_serve_testkit::{Addresses, bound};
 use log::Log;
@@ -51,7 +51,7 @@ pub enum Ending {
     /// After this many connections.
     Connections(usize),
     /// Once this input ends. Clients may be silent for these seconds.
-    Input(PipeReader, ClientSeconds),
+    Input(PipeReader, ClientLimits),
 }
 
 impl Ending {

@@ -31,4 +31,4 @@ pub use patience::{PatientReader, PatientWriter, prepare};
 pub use process_files::ProcessFiles;
 pub use setup::{OperatorPort, ServerSetup, listen};
 pub use stop::Stop;
-pub use until::{ClientSeconds, Until};
+pub use until::{ClientLimits, Until};

@@ -5,24 +5,39 @@ use crate::ended::Ended;
 use chord_app_text::Finish;
 use std::alloc::Global;
 use std::io::{self, Write};
+use std::mem;
 use std::net::TcpListener;
-use std::sync::{Mutex, Wait};
+use std::sync::{Condvar, Mutex, Wait};
 
-/// A writer, and the fault at which it failed, if any.
+/// How many lines wait at most to be written. Those that come while as many wait are left out.
+const MOST_WAITING: usize = 65_536;
+
+/// The lines that are not written yet.
 #[derive(Drop)]
-struct Out<W> {
-    writer: W,
+struct Unwritten {
+    /// Why no more are written, if writing failed.
     failed: Option<Finish>,
     /// How the connections ended whose lines are written at the end, by number.
     kept: Vec<Option<Ended>>,
+    /// How connections ended whose lines are written soon, each with its number.
+    waiting: Vec<(u64, Ended)>,
+    /// How many lines were left out behind these.
+    left_out: u64,
+    /// Whether no more come.
+    is_over: bool,
 }
 
-/// The lines of connections. After one that failed no more are written.
+/// The lines of connections. Whoever tells one does not wait for its writing, which is the work of a
+/// thread ([`Lines::write_on`]). After one that failed no more are written.
 #[derive(Drop)]
 pub struct Lines<W> {
+    alloc: Global,
     /// The lines of how many connections are kept for the end.
     most_kept: usize,
-    out: Mutex<Out<W>>,
+    writer: Mutex<W>,
+    unwritten: Mutex<Unwritten>,
+    /// Is notified when there is something to write.
+    told: Condvar,
 }
 
 /// Writes the address at which operators are served.
@@ -52,7 +67,21 @@ fn write_doors<W: Write>(doors: Doors<'_>, writer: &mut W) -> io::Result<()> {
 
 /// Writes how a connection ended.
 fn write_end<W: Write>(number: u64, ended: &Ended, writer: &mut W) -> io::Result<()> {
-    writeln!(writer, "connection {number} {ended}")?;
+    writeln!(writer, "connection {number} {ended}")
+}
+
+/// Writes how these connections ended, and how many lines behind them were left out.
+fn write_waiting<W: Write>(
+    waiting: &[(u64, Ended)],
+    left_out: u64,
+    writer: &mut W,
+) -> io::Result<()> {
+    for (number, ended) in waiting.iter() {
+        write_end(*number, ended, writer)?;
+    }
+    if left_out > 0 {
+        writeln!(writer, "left out {left_out}")?;
+    }
     writer.flush()
 }
 
@@ -63,7 +92,7 @@ fn write_ends<W: Write>(ends: &[Option<Ended>], writer: &mut W) -> io::Result<()
             write_end(number as u64, ended, writer)?;
         }
     }
-    Ok(())
+    writer.flush()
 }
 
 impl<W: Write> Lines<W> {
@@ -75,47 +104,92 @@ impl<W: Write> Lines<W> {
     /// Those of the first `connections` connections are written at the end, by number.
     pub fn by_number(alloc: Global, writer: W, connections: usize) -> Lines<W> {
         Lines {
+            alloc,
             most_kept: connections,
-            out: Mutex::new(Out {
-                writer,
+            writer: Mutex::new(writer),
+            unwritten: Mutex::new(Unwritten {
                 failed: None,
                 kept: Vec::new(alloc),
+                waiting: Vec::new(alloc),
+                left_out: 0,
+                is_over: false,
             }),
+            told: Condvar::new(),
         }
     }
 
     /// Writes the addresses at which clients are served, and makes room for the lines to be kept.
     pub fn begin(&self, rt: &impl Wait, doors: Doors<'_>) -> Result<(), Finish> {
-        let mut out = self.out.lock(rt);
-        write_doors(doors, &mut out.writer)?;
-        out.kept.resize(self.most_kept, None)?;
+        write_doors(doors, &mut *self.writer.lock(rt))?;
+        self.unwritten.lock(rt).kept.resize(self.most_kept, None)?;
         Ok(())
     }
 
     /// Writes the address at which operators are served.
     pub fn begin_operator(&self, rt: &impl Wait, listener: &TcpListener) -> Result<(), Finish> {
-        let mut out = self.out.lock(rt);
-        write_operator_address(listener, &mut out.writer)?;
+        write_operator_address(listener, &mut *self.writer.lock(rt))?;
         Ok(())
     }
 
-    /// Writes how a connection ended, or keeps it for the end. Says false if writing failed.
+    /// Has how a connection ended written soon, or keeps it for the end. Says false if writing failed.
     pub fn tell(&self, rt: &impl Wait, number: u64, ended: &Ended) -> bool {
-        let mut out = self.out.lock(rt);
-        if out.failed.is_some() {
+        let mut unwritten = self.unwritten.lock(rt);
+        if unwritten.failed.is_some() {
             return false;
         }
-        if let Some(kept) = out.kept.get_mut(number as usize) {
+        if let Some(kept) = unwritten.kept.get_mut(number as usize) {
             *kept = Some(*ended);
             return true;
         }
-        match write_end(number, ended, &mut out.writer) {
+        let is_left_out = unwritten.left_out > 0
+            || unwritten.waiting.len() >= MOST_WAITING
+            || unwritten.waiting.push((number, *ended)).is_err();
+        if is_left_out {
+            unwritten.left_out = unwritten.left_out.saturating_add(1);
+        }
+        drop(unwritten);
+        self.told.notify_all();
+        true
+    }
+
+    /// Says that no more lines come.
+    pub fn end(&self, rt: &impl Wait) {
+        self.unwritten.lock(rt).is_over = true;
+        self.told.notify_all();
+    }
+
+    /// Writes the lines that wait, once there are some. Says false if no more are to be written.
+    fn write_next(&self, rt: &impl Wait) -> bool {
+        let unwritten = self.unwritten.lock(rt);
+        let mut unwritten = self.told.wait_while(rt, unwritten, |lines| {
+            lines.waiting.is_empty() && lines.left_out == 0 && !lines.is_over
+        });
+        let waiting = mem::replace(&mut unwritten.waiting, Vec::new(self.alloc));
+        let left_out = mem::replace(&mut unwritten.left_out, 0);
+        drop(unwritten);
+        if waiting.is_empty() && left_out == 0 {
+            drop(waiting);
+            return false;
+        }
+        let written = write_waiting(&waiting, left_out, &mut *self.writer.lock(rt));
+        drop(waiting);
+        match written {
             Ok(()) => true,
             Err(error) => {
-                out.failed = Some(Finish::from(error));
+                self.unwritten.lock(rt).failed = Some(Finish::from(error));
                 false
             }
         }
+    }
+
+    /// Writes lines as they come, until no more do or writing fails. Says whether all were written.
+    pub fn write_on(&self, rt: &impl Wait) -> bool {
+        for _ in 0..u64::MAX {
+            if !self.write_next(rt) {
+                break;
+            }
+        }
+        self.unwritten.lock(rt).failed.is_none()
     }
 
     /// Writes the lines that were kept. Succeeds if all lines were written.
@@ -123,15 +197,25 @@ impl<W: Write> Lines<W> {
     where
         W: Drop,
     {
-        let Lines { most_kept: _, out } = self;
-        let Out {
-            mut writer,
+        let Lines {
+            alloc: _,
+            most_kept: _,
+            writer,
+            unwritten,
+            told: _,
+        } = self;
+        let mut writer = writer.into_inner();
+        let Unwritten {
             failed,
             kept,
-        } = out.into_inner();
+            waiting,
+            left_out,
+            is_over: _,
+        } = unwritten.into_inner();
         if let Some(finish) = failed {
             return Err(finish);
         }
+        write_waiting(&waiting, left_out, &mut writer)?;
         write_ends(&kept, &mut writer)?;
         Ok(())
     }

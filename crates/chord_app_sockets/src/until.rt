@@ -1,6 +1,6 @@
 //! When a server ends.
 ghost use Rattle.std.specs.Prelude.{◌≡◌, true};
-ghost use Rattle.chord_app_sockets.specs.Until.{most_of, turns_of, read_size, idle_of, session_seconds, can_be_stopped};
+ghost use Rattle.chord_app_sockets.specs.Until.{most_of, turns_of, read_size, idle_of, session_seconds, buffers_of, can_be_stopped};
 
 use crate::stop::Stop;
 use chord_serve::ReadSize;
@@ -14,14 +14,20 @@ const TURNS: u64 = 65_536;
 /// connections.
 const SESSION_SECONDS: u64 = 600;
 
-/// For how many seconds a server that stays waits for clients.
+/// How many bytes the connections of a server hold at most that ends after some of them.
+const BUFFER_BYTES: u64 = 268_435_456;
+
+/// What clients of a server that stays are allowed.
 #[derive(Clone, Copy, Debug, PartialEq, Eq)]
-pub struct ClientSeconds {
-    /// How long one may be idle.
+pub struct ClientLimits {
+    /// For how many seconds one may be idle.
     pub idle: u64,
-    /// How long its session is kept that has no connection, though its caller is needed. For 0 none
-    /// is kept.
+    /// For how many seconds its session is kept that has no connection, though its caller is needed.
+    /// For 0 none is kept.
     pub keep: u64,
+    /// How many bytes all connections may hold, of requests that are not answered and of answers
+    /// that are not written.
+    pub buffers: u64,
 }
 
 /// When a server takes no more connections.
@@ -32,7 +38,7 @@ pub enum Until<'a> {
     /// Once `stop` is stopped. Callers serve one connection after another.
     Stopped {
         stop: &'a Stop,
-        seconds: ClientSeconds,
+        limits: ClientLimits,
     },
 }
 
@@ -78,7 +84,7 @@ impl<'a> Until<'a> {
     {
         match self {
             Until::Connections(_) => None,
-            Until::Stopped { seconds, .. } => Some(seconds.idle),
+            Until::Stopped { limits, .. } => Some(limits.idle),
         }
     }
 
@@ -89,7 +95,17 @@ impl<'a> Until<'a> {
     {
         match self {
             Until::Connections(_) => SESSION_SECONDS,
-            Until::Stopped { seconds, .. } => seconds.keep,
+            Until::Stopped { limits, .. } => limits.keep,
+        }
+    }
+
+    /// How many bytes all connections may hold.
+    pub fn buffers(self) -> u64
+        ensures { result ≡ buffers_of self.entry }
+    {
+        match self {
+            Until::Connections(_) => BUFFER_BYTES,
+            Until::Stopped { limits, .. } => limits.buffers,
         }
     }
 

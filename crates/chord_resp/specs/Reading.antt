@@ -1,11 +1,12 @@
 -- What a stream of bytes spells. Source: our own.
-use Rattle.std.specs.Prelude.{◌≡◌, ◌≤◌, ℕ, List, [], ◌∷◌, ◌++◌, length, drop, Bool, true, false, not, ◌&&◌, ◌==◌, nat_lt, Option, Some, None, Result, Ok, Err}
+use Rattle.std.specs.Prelude.{◌≡◌, ◌≤◌, ◌+◌, ◌-◌, ◌^◌, ℕ, fold, min, List, [], ◌∷◌, ◌++◌, length, drop, Bool, true, false, not, ◌&&◌, ◌==◌, nat_lt, Option, Some, None, Result, Ok, Err}
 use Rattle.chord_resp.specs.declared.reading.phase.Phase.{Phase}
 use Rattle.chord_resp.specs.declared.reading.phase.Phase.TheVariants as phase
 use Rattle.chord_resp.specs.declared.reading.protocol_error.ProtocolError.{ProtocolError}
 use Rattle.chord_resp.specs.declared.reading.read_error.ReadError.{ReadError}
 use Rattle.chord_resp.specs.declared.reading.read_error.ReadError.TheVariants as error
 use Rattle.chord_resp.specs.declared.reading.word.Word.{Word}
+use Rattle.chord_resp.specs.declared.reading.word.Word.TheVariants.{Whole, Long}
 use Rattle.chord_resp.specs.Machine.{State, Outcome, Goes, Gives, Fails, start, step}
 
 -- how a stream ends so far: with what has come of the next command, or with an error
@@ -50,6 +51,21 @@ pub record Reader : Type 0 where
 -- the bytes of a reader, read from its state on
 abbrev pub reading_of : Reader → Reading
 reading_of r = reading r.state r.bytes
+
+-- how many bytes of a word are kept
+abbrev pub word_bytes : Word → ℕ
+word_bytes (Whole bytes) = length bytes
+word_bytes (Long _) = 0
+
+-- how many bytes are kept of a command that has not come whole, with these before them; 2^64 - 1
+-- stands for more
+abbrev pub kept_behind : ℕ → State → ℕ
+kept_behind bytes s = fold (λ (sum : ℕ) (word : Word). min (sum + word_bytes word) (2 ^ 64 - 1))
+    (min (bytes + length s.partial) (2 ^ 64 - 1)) s.words
+
+-- the same, with the bytes that are not read
+abbrev pub partial_bytes : Reader → ℕ
+partial_bytes r = kept_behind (length r.bytes) r.state
 
 -- no command has begun
 abbrev pub is_at_start : Phase → Bool

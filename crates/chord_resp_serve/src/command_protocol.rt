@@ -2,7 +2,7 @@
 ghost use Rattle.std.specs.Prelude.{◌≡◌, ◌≢◌, ◌++◌, [], ℕ, List, length, Ok, true, IfErr};
 ghost use Rattle.chord_resp.specs.Answers.{error, Joins};
 ghost use Rattle.chord_resp.specs.Machine.{start};
-ghost use Rattle.chord_resp.specs.Reading.{reading_of};
+ghost use Rattle.chord_resp.specs.Reading.{partial_bytes, reading_of};
 ghost use Rattle.chord_resp.specs.Refusals.{refusal_text};
 ghost use Rattle.chord_resp.specs.Table.{Gives, command_of};
 ghost use Rattle.chord_serve.specs.Ends.{IsStop};
@@ -266,8 +266,14 @@ impl<A: Asker, I: Informs> Protocol for CommandProtocol<'_, A, I> {
 
     ghost unread = { λ c. length (reading_of c.commands).commands };
 
+    ghost partial = { λ c. partial_bytes c.commands };
+
     fn is_between(&self) -> bool {
         self.commands.is_between()
+    }
+
+    fn partial(&self) -> u64 {
+        self.commands.partial()
     }
 
     fn feed(&mut self, piece: &[u8]) -> Result<(), AllocError> {

@@ -163,8 +163,14 @@ impl<A: Asker> Protocol for FrameProtocol<A> {
 
     ghost unread = { λ c. length c.frames };
 
+    ghost partial = { λ c. length c.frames };
+
     fn is_between(&self) -> bool {
         self.frames.left() == 0
+    }
+
+    fn partial(&self) -> u64 {
+        self.frames.left() as u64
     }
 
     fn feed(&mut self, piece: &[u8]) -> Result<(), AllocError> {

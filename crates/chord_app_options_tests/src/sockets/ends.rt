@@ -1,7 +1,7 @@
 //! When a server ends, how connections end, and the lines that are written of them.
 
 use crate::checks::check;
-use chord_app_sockets::{ClientSeconds, Doors, Ended, Lines, Stop, Until};
+use chord_app_sockets::{ClientLimits, Doors, Ended, Lines, Stop, Until};
 use chord_app_text::{Fault, Finish};
 use chord_serve::{ReadSize, Served};
 use chord_wire::FaultCode;
@@ -20,6 +20,7 @@ struct Shown {
     keeps_callers: bool,
     idle: Option<u64>,
     session: u64,
+    buffers: u64,
     is_stopped: bool,
 }
 
@@ -31,6 +32,7 @@ fn show(until: Until<'_>) -> Shown {
         keeps_callers: until.keeps_callers(),
         idle: until.idle(),
         session: until.session_seconds(),
+        buffers: until.buffers(),
         is_stopped: until.is_stopped(),
     }
 }
@@ -43,6 +45,7 @@ const SEVEN: Shown = Shown {
     keeps_callers: false,
     idle: None,
     session: 600,
+    buffers: 268_435_456,
     is_stopped: false,
 };
 
@@ -54,6 +57,7 @@ const STAYING: Shown = Shown {
     keeps_callers: true,
     idle: Some(300),
     session: 60,
+    buffers: 1_048_576,
     is_stopped: false,
 };
 
@@ -75,9 +79,10 @@ fn stop_at_the_end<R: Net<Listener = TcpListener, Stream = TcpStream> + Clock>(
     let stop = Stop::new(listener.local_addr()?);
     let until = Until::Stopped {
         stop: &stop,
-        seconds: ClientSeconds {
+        limits: ClientLimits {
             idle: 300,
             keep: 60,
+            buffers: 1_048_576,
         },
     };
     let before = show(until);
@@ -159,19 +164,24 @@ fn connections_end(rt: HostRuntime) {
     );
 }
 
-/// What was told of connections 1, 0 and 2, and how the lines ended.
+/// What was told of connections 1, 0 and 2, whether all was written then, what was told of
+/// connection 3, and how the lines ended.
 #[derive(Clone, Copy, Debug, PartialEq, Eq)]
 struct Told {
     told: [bool; 3],
+    is_written: bool,
+    later: bool,
     finish: Result<(), Finish>,
 }
 
 const ALL_TOLD: Told = Told {
     told: [true; 3],
+    is_written: true,
+    later: true,
     finish: Ok(()),
 };
 
-/// Tells of connections 1, 0 and 2, in this order.
+/// Tells of connections 1, 0 and 2, in this order, has that written, and tells of connection 3.
 fn tell<W: io::Write + Drop>(
     rt: &impl Wait,
     lines: Lines<W>,
@@ -183,8 +193,11 @@ fn tell<W: io::Write + Drop>(
         lines.tell(rt, 0, &Ended::Served(Served::Ended)),
         lines.tell(rt, 2, &Ended::CallersSpent),
     ];
+    lines.end(rt);
     Ok(Told {
         told,
+        is_written: lines.write_on(rt),
+        later: lines.tell(rt, 3, &Ended::Idle),
         finish: lines.finish(),
     })
 }
@@ -212,11 +225,13 @@ fn writes<R: Net<Listener = TcpListener, Stream = TcpStream> + Wait>(
 
 #[test]
 fn lines_of_connections(rt: HostRuntime) {
-    let wanted = "connection 1 idle\nconnection 0 ended\nconnection 2 callersspent\n";
+    let wanted =
+        "connection 1 idle\nconnection 0 ended\nconnection 2 callersspent\nconnection 3 idle\n";
     let written = writes(&rt, rt.alloc(), 0, wanted);
     check!(&rt; written == Some((ALL_TOLD, true)), "as they end");
-    let wanted = "connection 0 ended\nconnection 1 idle\nconnection 2 callersspent\n";
-    let written = writes(&rt, rt.alloc(), 3, wanted);
+    let wanted =
+        "connection 0 ended\nconnection 1 idle\nconnection 2 callersspent\nconnection 3 idle\n";
+    let written = writes(&rt, rt.alloc(), 4, wanted);
     check!(&rt; written == Some((ALL_TOLD, true)), "by number at the end");
 }
 
@@ -234,7 +249,9 @@ fn writes_one_line<R: Net<Listener = TcpListener, Stream = TcpStream> + Wait>(
 #[test]
 fn a_line_that_is_not_written_is_the_last(rt: HostRuntime) {
     let wanted = Told {
-        told: [true, false, false],
+        told: [true, true, true],
+        is_written: false,
+        later: false,
         finish: Err(Finish::Fault(Fault::Write)),
     };
     let told = writes_one_line(&rt, rt.alloc());
@@ -242,4 +259,29 @@ fn a_line_that_is_not_written_is_the_last(rt: HostRuntime) {
         told == Some(wanted),
         "no line is told behind one that failed"
     );
+}
+
+/// Tells of 65,538 connections before any line is written, and then of one more.
+fn tells_too_many<R: Wait>(rt: &R, alloc: Global) -> Option<(bool, usize, bool)> {
+    let mut written: Vec<u8> = Vec::new(alloc);
+    let lines = Lines::as_they_end(alloc, &mut written);
+    let is_told = (0..65_538).all(|number| lines.tell(rt, number, &Ended::Idle));
+    lines.end(rt);
+    let is_written = lines.write_on(rt);
+    let is_told_later = lines.tell(rt, 7, &Ended::Idle);
+    lines.finish().ok()?;
+    let count = written.iter().filter(|byte| **byte == b'\n').count();
+    let end = b"connection 65535 idle\nleft out 2\nconnection 7 idle\n";
+    Some((
+        is_told && is_written && is_told_later,
+        count,
+        written.ends_with(end),
+    ))
+}
+
+/// Who tells of a connection does not wait for who writes: 65,536 lines wait at most.
+#[test]
+fn lines_that_nobody_reads_are_left_out(rt: HostRuntime) {
+    let told = tells_too_many(&rt, rt.alloc());
+    check!(&rt; told == Some((true, 65_538, true)), "what is left out is told");
 }

@@ -1,6 +1,6 @@
 //! How a server is told to take no more connections, over loopback.
 
-use chord_app_sockets::{ClientSeconds, Doors, Stop, Until};
+use chord_app_sockets::{ClientLimits, Doors, Stop, Until};
 use std::io;
 use std::net::{Net, TcpListener, TcpStream};
 use std::time::Clock;
@@ -108,9 +108,10 @@ fn stopped_twice<R: Net<Listener = TcpListener, Stream = TcpStream> + Clock>(
     let stop = Stop::of(Doors::Frames(&frames))?;
     let until = Until::Stopped {
         stop: &stop,
-        seconds: ClientSeconds {
+        limits: ClientLimits {
             idle: 300,
             keep: 600,
+            buffers: 1_048_576,
         },
     };
     let before = look(until.is_stopped(), &frames, &redis);

@@ -47,6 +47,10 @@ const FAULTS: &[(&str, &str)] = &[
         "chord serve --plan p --port 7 --connections 1 --callers 2",
         "error: the argument '--connections <K>' cannot be used with '--callers <N>'",
     ),
+    (
+        "chord serve --plan p --port 7 --connections 1 --buffers 2",
+        "error: the argument '--connections <K>' cannot be used with '--buffers <MB>'",
+    ),
 ];
 
 /// `serve` requires a plan, a port of at least one protocol, and one of `--connections` and
@@ -70,6 +74,7 @@ struct LineOfP {
     keep: u64,
     slots: Option<usize>,
     callers: Option<usize>,
+    buffers: u64,
     notes: bool,
 }
 
@@ -83,6 +88,7 @@ const AT_7: LineOfP = LineOfP {
     keep: 600,
     slots: None,
     callers: None,
+    buffers: 268_435_456,
     notes: false,
 };
 
@@ -101,6 +107,7 @@ impl ReadLine for LineOfP {
             keep: line.keep,
             slots: line.slots,
             callers: line.callers,
+            buffers: line.buffers,
             notes: line.notes,
         })
     }
@@ -293,7 +300,7 @@ fn the_operator_of_serve(rt: HostRuntime) {
 }
 
 /// A server that stays has the plan's numbers of nodes and callers, or those of its line, at most
-/// 4,096 nodes and 16,384 callers.
+/// 4,096 nodes and 16,384 callers, and 256 MB for what connections hold, or those of its line.
 const SIZES: &[(&str, LineOfP)] = &[
     (
         "chord serve --plan p --port 7 --stay --slots 4096 --callers 16384",
@@ -308,6 +315,20 @@ const SIZES: &[(&str, LineOfP)] = &[
         LineOfP {
             slots: Some(1),
             callers: Some(1),
+            ..AT_7
+        },
+    ),
+    (
+        "chord serve --plan p --port 7 --stay --buffers 1",
+        LineOfP {
+            buffers: 1_048_576,
+            ..AT_7
+        },
+    ),
+    (
+        "chord serve --plan p --port 7 --stay --buffers 65536",
+        LineOfP {
+            buffers: 68_719_476_736,
             ..AT_7
         },
     ),
@@ -331,6 +352,8 @@ fn the_size_of_serve(rt: HostRuntime) {
             "chord serve --plan p --port 7 --stay --slots 4097",
             "chord serve --plan p --port 7 --stay --callers 0",
             "chord serve --plan p --port 7 --stay --callers 16385",
+            "chord serve --plan p --port 7 --stay --buffers 0",
+            "chord serve --plan p --port 7 --stay --buffers 65537",
         ],
     );
 }
@@ -352,6 +375,7 @@ pub const SERVE_HELP: &str = concat!(
     "      --operator <N>     With --stay: an operator's port on 127.0.0.1, 1 to 65535, or 0 for any that is free\n",
     "      --slots <N>        With --stay: how many nodes there may ever be, 1 to 4096, else the plan's\n",
     "      --callers <N>      With --stay: how many callers there may be, 1 to 16384, else the plan's\n",
+    "      --buffers <MB>     With --stay: how many megabytes all connections may hold, 1 to 65536, else 256\n",
     "  -h, --help             Print help\n",
 );
 

@@ -6,7 +6,7 @@ use crate::plan_run::ring_parts_of;
 use crate::serving::request_tally::RequestTally;
 use crate::serving::server::Serving;
 use crate::serving::whole_ring::WholeRing;
-use chord_app_sockets::{ClientSeconds, Host, Lines, ServerSetup, Stop, Until};
+use chord_app_sockets::{ClientLimits, Host, Lines, ServerSetup, Stop, Until};
 use chord_app_text::Finish;
 use chord_live_ring::RingParts;
 use chord_store::EntryStore;
@@ -135,7 +135,7 @@ pub fn stay<
     rt: &R,
     setup: &ServerSetup<'_, L>,
     stores: ServerStores<S>,
-    seconds: ClientSeconds,
+    limits: ClientLimits,
     input: I,
     writer: W,
 ) -> Result<WholeRing, Finish>
@@ -154,7 +154,7 @@ pub fn stay<
     let lines = Lines::as_they_end(setup.alloc, writer);
     let until = Until::Stopped {
         stop: &stop,
-        seconds,
+        limits,
     };
     let stayed = serve_until(rt, setup, stores, until, lines, parts);
     drop(stop);

@@ -3,7 +3,7 @@
 
 use crate::serving::server::Server;
 use crate::serving::trying::TryingAsker;
-use chord_app_loop::{Guest, Met, Owner, Socket};
+use chord_app_loop::{Budget, Guest, Met, Owner, Socket};
 use chord_app_sockets::Ended;
 use chord_serve::{
     BeginRefusal, ClientSession, FrameProtocol, Link, Parted, Resumed, Served, first_opening,
@@ -264,5 +264,9 @@ impl<'t, 's, 'r, J: Naming, S: EntryStore, R: Wait + Clock + Net, L: Log, W: Wri
 
     fn wants_end(&self) -> bool {
         self.server.clients.are_told_to_end()
+    }
+
+    fn budget(&self) -> &Budget {
+        &self.server.budget
     }
 }

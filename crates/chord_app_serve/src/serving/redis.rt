@@ -3,7 +3,7 @@
 use crate::serving::info::Told;
 use crate::serving::server::Server;
 use crate::serving::trying::TryingAsker;
-use chord_app_loop::{Guest, Met, Owner, Socket};
+use chord_app_loop::{Budget, Guest, Met, Owner, Socket};
 use chord_app_sockets::Ended;
 use chord_resp_serve::{CommandProtocol, ServerInfo};
 use chord_serve::{Link, Served};
@@ -81,5 +81,9 @@ impl<'t, 's, 'r, J: Naming, S: EntryStore, R: Wait + Clock + Net, L: Log, W: Wri
 
     fn wants_end(&self) -> bool {
         self.server.clients.are_told_to_end()
+    }
+
+    fn budget(&self) -> &Budget {
+        &self.server.budget
     }
 }

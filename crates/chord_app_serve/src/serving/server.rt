@@ -16,7 +16,7 @@ use crate::serving::sessions::Sessions;
 use crate::serving::tally::Tally;
 use crate::serving::trying::TryingAsker;
 use crate::serving::whole_ring::WholeRing;
-use chord_app_loop::{Guest, Loops, Owner, Rules, Socket};
+use chord_app_loop::{Budget, Guest, Loops, Owner, Rules, Socket};
 use chord_app_sockets::{
     Clients, Door, Doors, Ended, Host, Lines, OncePerSecond, Protocol, ServerSetup, Until,
 };
@@ -59,6 +59,8 @@ pub struct Server<'s, 'r, J: Naming, S: EntryStore, R, L, W> {
     foreign_warnings: OncePerSecond,
     /// Of connections that could not be accepted.
     accept_warnings: OncePerSecond,
+    /// How much all connections may hold.
+    pub budget: Budget,
 }
 
 /// The event loops of clients that speak in frames.
@@ -382,6 +384,13 @@ impl<
         start(rt, alloc, scope, redis, redis_house)
     }
 
+    /// Writes lines as they come. If writing fails, the server stops.
+    fn write_lines(&self) {
+        if !self.lines.write_on(self.service.rt) {
+            self.until.stop(self.service.rt);
+        }
+    }
+
     /// Starts the nodes, writes the addresses at which clients are served, and serves them.
     fn start_and_accept<E: 't>(
         &'c self,
@@ -396,6 +405,9 @@ impl<
             .service
             .start(scope, setup.plan.nodes.as_slice(), stores)?;
         server.lines.begin(server.service.rt, setup.doors)?;
+        if scope.spawn(move || server.write_lines()).is_err() {
+            return Err(Finish::OutOfMemory);
+        }
         server.start_operators(scope)?;
         self.accept_at(scope, frames, redis, setup.doors)
     }
@@ -429,6 +441,7 @@ impl<
             self.clients.wait_for_all(self.service.rt);
             frames.end();
             redis.end();
+            self.lines.end(self.service.rt);
             self.end_operators();
             self.service.ring.stop();
             ended
@@ -575,6 +588,7 @@ impl<S: EntryStore + Send, R: Host, L: Log + Sync, W: Write + Send> Serving<'_, 
             desk,
             foreign_warnings: OncePerSecond::new(),
             accept_warnings: OncePerSecond::new(),
+            budget: Budget::new(until.buffers()),
         };
         let told = Told {
             rt,

@@ -7,7 +7,7 @@ use chord_app_serve_testkit::{
     Addresses, GOOD, SMALL, Size, WAITS, expect, fill, look_at, request_frame, retrieve,
     stay_beside,
 };
-use chord_app_sockets::ClientSeconds;
+use chord_app_sockets::ClientLimits;
 use log::sink::Discard;
 use std::alloc::Global;
 use std::hash::RandomState;
@@ -77,7 +77,7 @@ fn is_left<R: Net + Clock>(rt: &R, alloc: Global, at: Addresses) -> io::Result<R
 /// requests.
 #[test]
 fn a_client_that_does_not_read_is_idle(rt: HostRuntime) -> Result<(), Fail> {
-    let seconds = ClientSeconds { idle: 1, ..WAITS };
+    let seconds = ClientLimits { idle: 1, ..WAITS };
     let size = Size {
         operator: Some(RandomState::new(&rt)?),
         ..ROOMY

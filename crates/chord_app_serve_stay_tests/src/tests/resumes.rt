@@ -5,7 +5,7 @@ use chord_app_ask::{Drops, Kind, Load, Tokens, Until, run_load};
 use chord_app_serve_testkit::{
     Act, Answer, Ask, GOOD, Handle, SMALL, Size, WAITS, do_acts, look_at, stay_beside,
 };
-use chord_app_sockets::ClientSeconds;
+use chord_app_sockets::ClientLimits;
 use chord_app_text::{Fault, Finish};
 use chord_map::{Reply, Request};
 use chord_serve::WireClient;
@@ -143,15 +143,15 @@ const LOADED: Size = Size {
 };
 
 /// A server that keeps sessions for `keep` seconds.
-pub fn keeping(keep: u64) -> ClientSeconds {
-    ClientSeconds { keep, ..WAITS }
+pub fn keeping(keep: u64) -> ClientLimits {
+    ClientLimits { keep, ..WAITS }
 }
 
 /// How a load of connections that are cut went at a server that ended well.
 fn load_beside<R: Handle + Net<Listener = TcpListener, Stream = TcpStream>>(
     rt: &R,
     alloc: Global,
-    seconds: ClientSeconds,
+    seconds: ClientLimits,
     pipe: (PipeReader, PipeWriter),
     tokens: Tokens,
 ) -> Option<Loaded> {

@@ -7,7 +7,7 @@ use chord_app_serve_testkit::{
     Act, Answer, Ask, GOOD, Handle, NOTHING, SMALL, Script, Size, WAITS, bound, follow,
     follow_noted, leave, plan_with, two_stores,
 };
-use chord_app_sockets::{ClientSeconds, Doors, Host, ServerSetup};
+use chord_app_sockets::{ClientLimits, Doors, Host, ServerSetup};
 use chord_app_text::{Fault, Finish};
 use chord_wire::FaultCode;
 use log::Log;
@@ -25,7 +25,7 @@ pub fn stay_over<'a, R: Host, L: Log + Sync, W: Write + Send + Drop>(
     plan: &'a Plan,
     doors: Doors<'a>,
     limit: u64,
-    seconds: ClientSeconds,
+    seconds: ClientLimits,
     input: PipeReader,
     notes: &'a L,
     writer: W,
@@ -174,7 +174,7 @@ const ONE_IS_IDLE: Script = Script {
 #[test]
 fn an_idle_client_is_left(rt: HostRuntime) -> Result<(), Fail> {
     let wanted = "connection 0 idle\nconnection 1 ended\n";
-    let seconds = ClientSeconds { idle: 1, ..WAITS };
+    let seconds = ClientLimits { idle: 1, ..WAITS };
     let server = (SMALL, seconds);
     let found = follow(&rt, rt.alloc(), server, ONE_IS_IDLE, io::pipe(&rt)?, wanted);
     assert!(rt; found == Some(GOOD), "{found:?}");

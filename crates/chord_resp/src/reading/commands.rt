@@ -1,7 +1,7 @@
 //! The commands of a stream of bytes.
 ghost use Rattle.std.specs.Prelude.{◌≡◌, ◌++◌, [], length, OnOk, OnErr};
 ghost use Rattle.chord_resp.specs.Machine.{start};
-ghost use Rattle.chord_resp.specs.Reading.{TakesNext, is_between};
+ghost use Rattle.chord_resp.specs.Reading.{TakesNext, is_between, partial_bytes};
 
 use crate::reading::machine::Machine;
 use crate::reading::read_error::ReadError;
@@ -48,6 +48,13 @@ impl Commands {
         ensures { result ≡ length self.now.bytes }
     {
         self.bytes.len() - self.start
+    }
+
+    /// How many bytes are kept of a command that has not come whole; `u64::MAX` stands for more.
+    pub fn partial(&self) -> u64
+        ensures { result ≡ partial_bytes self.now }
+    {
+        self.machine.kept_behind(self.left() as u64)
     }
 
     /// Whether the stream may end here: no command has begun.

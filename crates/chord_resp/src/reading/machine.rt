@@ -3,7 +3,7 @@ ghost use Rattle.std.specs.Prelude.{◌≡◌, ◌-◌, ◌<◌, ◌≤◌, true
 ghost use Rattle.chord_resp.specs.Machine.{start, step, kept, went, line_step, line_of, words_in, without_return, count_end_step, body_step, end_step, word_kept, word_of_length};
 ghost use Rattle.chord_resp.specs.declared.reading.phase.Phase.TheVariants as phase;
 ghost use Rattle.chord_resp.specs.ShortLines.{EndsLine};
-ghost use Rattle.chord_resp.specs.Reading.{StepIs, Skims, KeepsNext, keeps, is_at_start};
+ghost use Rattle.chord_resp.specs.Reading.{StepIs, Skims, KeepsNext, keeps, is_at_start, kept_behind};
 
 use crate::limits::{LINE_BYTES, WORD_BYTES, WORDS};
 use crate::reading::foreign::is_foreign;
@@ -58,6 +58,16 @@ impl Machine {
         ensures { result ≡ is_at_start self.now.phase }
     {
         self.phase == Phase::Start
+    }
+
+    /// How many bytes are kept, with these before them; `u64::MAX` stands for more.
+    pub fn kept_behind(&self, bytes: u64) -> u64
+        ensures { result ≡ kept_behind bytes self.now }
+    {
+        let begun = bytes.saturating_add(self.partial.len() as u64);
+        self.words
+            .iter()
+            .fold(begun, |sum, word| sum.saturating_add(word.kept_bytes()))
     }
 
     // Keeps bytes of a word of this length.

@@ -1,3 +1,7 @@
+//! A word of a command.
+ghost use Rattle.std.specs.Prelude.{◌≡◌};
+ghost use Rattle.chord_resp.specs.Reading.{word_bytes};
+
 use chord_map::Bytes;
 
 /// A word of a command.
@@ -7,4 +11,16 @@ pub enum Word {
     Whole(Bytes),
     /// The length of a longer word, whose bytes are not kept.
     Long(usize),
+}
+
+impl Word {
+    /// How many of its bytes are kept.
+    pub fn kept_bytes(&self) -> u64
+        ensures { result ≡ word_bytes self.now }
+    {
+        match self {
+            Word::Whole(bytes) => bytes.as_slice().len() as u64,
+            Word::Long(_) => 0,
+        }
+    }
 }

@@ -117,6 +117,20 @@ impl<P: Protocol, S: Stream> Link<P, S> {
         matches!(machine.stage, Stage::Answers) && !machine.is_lost && !machine.due.is_full()
     }
 
+    /// How many bytes it keeps of a request that has not come whole.
+    pub fn partial(&self) -> u64
+        ensures { result ≡ P.partial self.now.machine.protocol }
+    {
+        self.machine.protocol.partial()
+    }
+
+    /// How many bytes of answers are not written.
+    pub fn unwritten(&self) -> u64
+        ensures { result ≡ length self.now.machine.due }
+    {
+        self.machine.due.as_slice().len() as u64
+    }
+
     /// Whether the next request was begun and has no answer yet.
     pub fn waits(&self) -> bool
         ensures { IsTrue result ↔ (self.now.machine.stage ≡ Stage.Waits) }

@@ -38,9 +38,16 @@ pub trait Protocol {
     /// How many bytes or requests came that are not answered.
     ghost unread: { Self → ℕ };
 
+    /// How many bytes it keeps of a request that has not come whole.
+    ghost partial: { Self → ℕ };
+
     /// Whether the input may end here: no request has come in part.
     fn is_between(&self) -> bool
         ensures { result ≡ between self.now };
+
+    /// How many bytes it keeps of a request that has not come whole.
+    fn partial(&self) -> u64
+        ensures { result ≡ partial self.now };
 
     /// Takes a piece of the input in.
     fn feed(&mut self, piece: &[u8]) -> Result<(), AllocError>

@@ -37,8 +37,14 @@ impl Protocol for Echo {
 
     ghost unread = { λ heard. length heard };
 
+    ghost partial = { λ heard. length heard };
+
     fn is_between(&self) -> bool {
         self.heard.len() == 0
+    }
+
+    fn partial(&self) -> u64 {
+        self.heard.len() as u64
     }
 
     fn feed(&mut self, piece: &[u8]) -> Result<(), AllocError> {
