@@ -3,11 +3,19 @@
 #![tactic(auto)]
 
 #[cfg(test)]
-mod checks;
+mod askers;
 #[cfg(test)]
-mod driving;
+mod escapes;
+#[cfg(test)]
+mod frames;
+#[cfg(test)]
+mod growths;
+#[cfg(test)]
+mod options;
 #[cfg(test)]
 mod redis;
+#[cfg(test)]
+mod shown;
 #[cfg(test)]
 mod tests;
 #[cfg(test)]

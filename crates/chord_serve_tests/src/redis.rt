@@ -1,4 +1,4 @@
 //! Redis's protocol: its words, and sessions over memory.
 
-mod connections;
-mod words;
+pub mod connections;
+pub mod words;

@@ -1,18 +1,13 @@
 //! Worked sessions, over memory.
 
-mod askers;
 mod client_sessions;
 mod echoes;
-mod faults;
+pub mod flying;
 mod going_on;
-mod greetings;
-mod growths;
-mod in_flight;
-mod kept_sessions;
-mod links;
+pub mod in_flight;
 mod resumed;
-mod script;
-mod session_table;
-mod sessions;
+pub mod serving;
+pub mod sessions;
 mod sessions_alone;
-mod turns;
+mod tabled;
+mod visiting;

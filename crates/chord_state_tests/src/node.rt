@@ -1,13 +1,14 @@
 //! One node.
 
+mod acting;
 mod asks;
+mod calls;
 mod counted_store;
+mod deeds;
 mod growths;
 mod handovers;
 mod leaving;
-mod pages;
-mod parts;
-mod scripts;
+mod stands;
 
 use chord_ident::Id;
 use chord_links::{Links, Peer};
@@ -16,11 +17,8 @@ use chord_node::Node;
 use chord_node::laws::no_delivery_clashes;
 use chord_store::{CappedStore, EntryStore};
 use std::alloc::Global;
-use std::process::Abort;
 
-pub const A: u128 = 0x40000000000000000000000000000000;
-
-pub const B: u128 = 0x80000000000000000000000000000000;
+const A: u128 = 0x40000000000000000000000000000000;
 
 pub const C: u128 = 0xc0000000000000000000000000000000;
 
@@ -34,14 +32,6 @@ pub fn found<S: EntryStore>(alloc: Global, store: S) -> Option<Node<S>> {
         id: Id::new(A),
     };
     Node::found(alloc, me, 3, store).ok()
-}
-
-/// Node 0, with room for `limit` pairs; made again if memory was refused.
-pub fn founder(rt: &impl Abort, alloc: Global, limit: u64) -> Node<CappedStore> {
-    match found(alloc, CappedStore::new(alloc, limit)) {
-        Some(node) => node,
-        None => found(alloc, CappedStore::new(alloc, limit)).expect(rt, "memory for a node"),
-    }
 }
 
 /// Node 1, at C, which holds nothing.

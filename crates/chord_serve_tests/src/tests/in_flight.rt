@@ -1,633 +1,178 @@
-//! A client with several requests in flight, against the server, over memory. Most tests are lists
-//! of what the client does, with what it is answered.
+//! A client with several requests in flight, against the server, over memory.
 
-use super::askers::{AtFirst, LateAsker};
-use super::sessions::{INSERT_2, fault, insert};
-use crate::checks::check;
-use chord_map::{Reply, Request};
-use chord_serve::{
-    AgainFault, Asker, CallFault, ReadSize, ReceiveFault, SendFault, Served, WireClient, serve,
-    tell_callers_spent,
-};
-use chord_serve_testkit::{Limited, Limits, MapAsker};
-use chord_wire::{Answer, FaultCode};
-use std::alloc::{AllocError, Global};
-use std::io::Write;
+use super::flying::Flight;
+use chord_testkit::follow;
+use std::test::Fail;
 
-// Insert x under a in version 1, number 1.
-const OLD: &[u8] = b"\x00\x00\x00\x0f\x01\x01\x00\x00\x00\x00\x00\x00\x00\x01\x01a\x00\x01x";
+/// Requests that are sent, and sent again.
+pub const SENT: &str = "
+== sixteen in flight; sixteen answers raise the floor
+send insert > 1 insert.1/0.a.x; awaits 1, floor 0, last 1, wrote 27
+send insert > 2 insert.2/0.a.x; awaits 2, floor 0, last 2, wrote 54
+send insert > 3 insert.3/0.a.x; awaits 3, floor 0, last 3, wrote 81
+send insert > 4 insert.4/0.a.x; awaits 4, floor 0, last 4, wrote 108
+send insert > 5 insert.5/0.a.x; awaits 5, floor 0, last 5, wrote 135
+send insert > 6 insert.6/0.a.x; awaits 6, floor 0, last 6, wrote 162
+send insert > 7 insert.7/0.a.x; awaits 7, floor 0, last 7, wrote 189
+send insert > 8 insert.8/0.a.x; awaits 8, floor 0, last 8, wrote 216
+send insert > 9 insert.9/0.a.x; awaits 9, floor 0, last 9, wrote 243
+send insert > 10 insert.10/0.a.x; awaits 10, floor 0, last 10, wrote 270
+send insert > 11 insert.11/0.a.x; awaits 11, floor 0, last 11, wrote 297
+send insert > 12 insert.12/0.a.x; awaits 12, floor 0, last 12, wrote 324
+send insert > 13 insert.13/0.a.x; awaits 13, floor 0, last 13, wrote 351
+send insert > 14 insert.14/0.a.x; awaits 14, floor 0, last 14, wrote 378
+send insert > 15 insert.15/0.a.x; awaits 15, floor 0, last 15, wrote 405
+send insert > 16 insert.16/0.a.x; awaits 16, floor 0, last 16, wrote 432, full
+# a full window sends nothing
+send insert > WindowFull
+serve > Ended added.1 present.2 present.3 present.4 present.5 present.6 present.7 present.8 present.9 present.10 present.11 present.12 present.13 present.14 present.15 present.16
+# the next one has the floor 16
+receive > 1: 1 added; awaits 15, floor 1, last 16, wrote 432
+receive > 2: 2 present; awaits 14, floor 2, last 16, wrote 432
+receive > 3: 3 present; awaits 13, floor 3, last 16, wrote 432
+receive > 4: 4 present; awaits 12, floor 4, last 16, wrote 432
+receive > 5: 5 present; awaits 11, floor 5, last 16, wrote 432
+receive > 6: 6 present; awaits 10, floor 6, last 16, wrote 432
+receive > 7: 7 present; awaits 9, floor 7, last 16, wrote 432
+receive > 8: 8 present; awaits 8, floor 8, last 16, wrote 432
+receive > 9: 9 present; awaits 7, floor 9, last 16, wrote 432
+receive > 10: 10 present; awaits 6, floor 10, last 16, wrote 432
+receive > 11: 11 present; awaits 5, floor 11, last 16, wrote 432
+receive > 12: 12 present; awaits 4, floor 12, last 16, wrote 432
+receive > 13: 13 present; awaits 3, floor 13, last 16, wrote 432
+receive > 14: 14 present; awaits 2, floor 14, last 16, wrote 432
+receive > 15: 15 present; awaits 1, floor 15, last 16, wrote 432
+receive > 16: 16 present; awaits 0, floor 16, last 16, wrote 432
+send insert > 17 insert.17/16.a.x; awaits 1, floor 16, last 17, wrote 459
 
-// The same in version 2: number 1, 2 and 16 with floor 0, and number 17 with floor 16.
-const FIRST: &[u8] =
-    b"\x00\x00\x00\x17\x02\x01\x00\x00\x00\x00\x00\x00\x00\x01\x00\x00\x00\x00\x00\x00\x00\x00\x01a\x00\x01x";
+== a full store keeps the window; only what was refused is sent again
+client 2 2 > Begun
+send insert > 1 insert.1/0.a.x; awaits 1, floor 0, last 1, wrote 27
+send insert > 2 insert.2/0.a.x; awaits 2, floor 0, last 2, wrote 54, full
+again 1 > NotRefused
+serve full > Ended fault.1.10 fault.2.10
+receive > 1: 1 Full; awaits 1, floor 0, last 2, wrote 54, full
+receive > 2: 2 Full; awaits 0, floor 0, last 2, wrote 54, full
+again 3 > NotRefused
+# unchanged, in any order
+again 2 > Ok insert.2/0.a.x; awaits 1, floor 0, last 2, wrote 81, full
+again 2 > NotRefused
+again 1 > Ok insert.1/0.a.x; awaits 2, floor 0, last 2, wrote 108, full
 
-const SECOND: &[u8] =
-    b"\x00\x00\x00\x17\x02\x01\x00\x00\x00\x00\x00\x00\x00\x02\x00\x00\x00\x00\x00\x00\x00\x00\x01a\x00\x01x";
+== a full store is asked again; what is sent again is answered
+client 2 2 > Begun
+send insert > 1 insert.1/0.a.x; awaits 1, floor 0, last 1, wrote 27
+send insert > 2 insert.2/0.a.x; awaits 2, floor 0, last 2, wrote 54, full
+serve full > Ended fault.1.10 fault.2.10
+receive > 1: 1 Full; awaits 1, floor 0, last 2, wrote 54, full
+receive > 2: 2 Full; awaits 0, floor 0, last 2, wrote 54, full
+again 2 > Ok insert.2/0.a.x; awaits 1, floor 0, last 2, wrote 81, full
+again 1 > Ok insert.1/0.a.x; awaits 2, floor 0, last 2, wrote 108, full
+serve full > Ended added.2 present.1
+# the floor waits for the least number
+receive > 2: 2 added; awaits 1, floor 0, last 2, wrote 108, full
+receive > 1: 1 present; awaits 0, floor 2, last 2, wrote 108
 
-const SIXTEENTH: &[u8] =
-    b"\x00\x00\x00\x17\x02\x01\x00\x00\x00\x00\x00\x00\x00\x10\x00\x00\x00\x00\x00\x00\x00\x00\x01a\x00\x01x";
+== one at a time; an unanswered request holds back the next; it is answered then
+client 1 1 > Begun
+send insert > 1 insert.1.a.x; awaits 1, floor 0, last 1, wrote 19, full
+come fault.1.11 > Come
+receive > 1: 1 NoAnswer; awaits 0, floor 0, last 1, wrote 19, full
+send retrieve > WindowFull
+again 1 > Ok insert.1.a.x; awaits 1, floor 0, last 1, wrote 38, full
+come added.1 > Come
+receive > 1: 1 added; awaits 0, floor 1, last 1, wrote 38
 
-const NEXT: &[u8] =
-    b"\x00\x00\x00\x17\x02\x01\x00\x00\x00\x00\x00\x00\x00\x11\x00\x00\x00\x00\x00\x00\x00\x10\x01a\x00\x01x";
+== a client tells the number of its last request
+client 2 2 > Begun
+send insert > 1 insert.1/0.a.x; awaits 1, floor 0, last 1, wrote 27
+send retrieve > 2 retrieve.2/0.a; awaits 2, floor 0, last 2, wrote 51, full
+send remove > WindowFull
 
-// Number 1 was added, number 2 was added, number 1 was removed, and number 1 got no answer in time.
-const ADDED_1: &[u8] = b"\x00\x00\x00\x0b\x01\x81\x00\x00\x00\x00\x00\x00\x00\x01\x01";
+== replies in order
+client 2 3 > Begun
+send insert > 1 insert.1/0.a.x; awaits 1, floor 0, last 1, wrote 27
+send retrieve > 2 retrieve.2/0.a; awaits 2, floor 0, last 2, wrote 51
+send remove > 3 remove.3/0.a.y; awaits 3, floor 0, last 3, wrote 78, full
+serve > Ended added.1 values.2.x absent.3
+receive > 1: 1 added; awaits 2, floor 1, last 3, wrote 78
+receive > 2: 2 values 1 78; awaits 1, floor 2, last 3, wrote 78
+receive > 3: 3 absent; awaits 0, floor 3, last 3, wrote 78
+";
 
-const ADDED_2: &[u8] = b"\x00\x00\x00\x0b\x01\x81\x00\x00\x00\x00\x00\x00\x00\x02\x01";
+const FAULTS: &str = "
+== which windows
+client 1 1 > Begun
+client 1 0 > None; no client
+client 1 2 > None
+client 2 0 > None
+client 2 1 > Begun; awaits 0, floor 0, last 0, wrote 0
+client 2 16 > Begun
+client 2 17 > None; no client
+client 3 1 > None
+client 0 1 > None
 
-const REMOVED: &[u8] = b"\x00\x00\x00\x0b\x01\x83\x00\x00\x00\x00\x00\x00\x00\x01\x01";
+== answers that are none
+# nothing is asked; then the request still waits for its answer
+new come > Come
+receive > Idle
+send insert > 1 insert.1/0.a.x; awaits 1, floor 0, last 1, wrote 27
+receive > Call(Ended)
+new come added.1:14 > Come; awaits 0, floor 0, last 0, wrote 0
+receive > Idle
+send insert > 1 insert.1/0.a.x; awaits 1, floor 0, last 1, wrote 27
+receive > Call(Ended)
+# answers have version 1
+new come added.1@4=02 > Come; awaits 0, floor 0, last 0, wrote 0
+receive > Idle
+send insert > 1 insert.1/0.a.x; awaits 1, floor 0, last 1, wrote 27
+receive > Call(Malformed(BadVersion))
+new come added.2 > Come; awaits 0, floor 0, last 0, wrote 0
+receive > Idle
+send insert > 1 insert.1/0.a.x; awaits 1, floor 0, last 1, wrote 27
+receive > WrongNumber
+# a bad length is told with number 0
+new come fault.0.1 > Come; awaits 0, floor 0, last 0, wrote 0
+receive > Idle
+send insert > 1 insert.1/0.a.x; awaits 1, floor 0, last 1, wrote 27
+receive > WrongNumber
+new come fault.0.15 > Come; awaits 0, floor 0, last 0, wrote 0
+receive > Idle
+send insert > 1 insert.1/0.a.x; awaits 1, floor 0, last 1, wrote 27
+receive > CallersSpent
+new come removed.1 > Come; awaits 0, floor 0, last 0, wrote 0
+receive > Idle
+send insert > 1 insert.1/0.a.x; awaits 1, floor 0, last 1, wrote 27
+receive > WrongKind
 
-const NO_ANSWER: &[u8] = b"\x00\x00\x00\x0b\x01\xff\x00\x00\x00\x00\x00\x00\x00\x01\x0b";
+== slow and failing readers
+# the answer has 15 bytes
+new come added.1 > Come
+send insert > 1 insert.1/0.a.x; awaits 1, floor 0, last 1, wrote 27
+receive reads 1x20 turns 14 > Call(TurnsSpent)
+new come added.1 > Come; awaits 0, floor 0, last 0, wrote 0
+send insert > 1 insert.1/0.a.x; awaits 1, floor 0, last 1, wrote 27
+receive reads 1x14 turns 20 > Call(Read)
+new come added.1 > Come; awaits 0, floor 0, last 0, wrote 0
+send insert > 1 insert.1/0.a.x; awaits 1, floor 0, last 1, wrote 27
+receive reads 1x20 turns 15 > 1: 1 added; awaits 0, floor 1, last 1, wrote 27
 
-// Number 1 was added, in a version that answers do not have, and without its last byte.
-const BAD: &[u8] = b"\x00\x00\x00\x0b\x02\x81\x00\x00\x00\x00\x00\x00\x00\x01\x01";
+== a writer that fails; a writer that fails again
+# a request whose frame was written only in part counts as sent
+send writes 7x1 insert > Write x.00000017020100; awaits 1, floor 0, last 1, wrote 7
+come fault.1.10 > Come
+receive turns 1 > 1: 1 Full; awaits 0, floor 0, last 1, wrote 7
+again writes 7x0 1 > Write; awaits 1, floor 0, last 1, wrote 7
 
-const CUT: &[u8] = b"\x00\x00\x00\x0b\x01\x81\x00\x00\x00\x00\x00\x00\x00\x01";
-
-// A bad length, and no caller is left.
-const BAD_LENGTH: &[u8] = b"\x00\x00\x00\x0b\x01\xff\x00\x00\x00\x00\x00\x00\x00\x00\x01";
-
-const NO_CALLER: &[u8] = b"\x00\x00\x00\x0b\x01\xff\x00\x00\x00\x00\x00\x00\x00\x00\x0f";
-
-/// What a client receives: a number and its answer, or why there is none.
-type Received = Result<(u64, Answer), ReceiveFault>;
-
-/// What a reply says.
-#[derive(Clone, Copy, PartialEq, Eq)]
-enum Word {
-    Added,
-    Present,
-    Absent,
-    /// The one value x.
-    X,
-    Other,
-}
-
-/// What was received, as a plain value: a number with its reply or fault, or why there is none.
-#[derive(Clone, Copy, PartialEq, Eq)]
-enum Told {
-    Reply(u64, Word),
-    Fault(u64, FaultCode),
-    Nothing(ReceiveFault),
-}
-
-fn word_of(reply: &Reply) -> Word {
-    match reply {
-        Reply::Added => Word::Added,
-        Reply::Present => Word::Present,
-        Reply::Absent => Word::Absent,
-        Reply::Values(values)
-            if matches!(values.as_slice(), [one] if one.as_slice() == b"x".as_slice()) => {
-            Word::X
-        }
-        _ => Word::Other,
-    }
-}
-
-fn told_of(received: Received) -> Told {
-    let told = match &received {
-        Ok(
-            (
-                number,
-                Answer::Reply {
-                    number: inside,
-                    reply,
-                },
-            ),
-        ) => {
-            let word = if number == inside {
-                word_of(reply)
-            } else {
-                Word::Other
-            };
-            Told::Reply(*number, word)
-        }
-        Ok((number, Answer::Fault { code, .. })) => Told::Fault(*number, *code),
-        Err(why) => Told::Nothing(*why),
-    };
-    drop(received);
-    told
-}
-
-/// Insert x under a, retrieve a, or remove y from under a.
-#[derive(Clone, Copy)]
-enum Kind {
-    Insert,
-    Retrieve,
-    Remove,
-}
-
-fn request_of(alloc: Global, kind: Kind) -> Result<Request, AllocError> {
-    match kind {
-        Kind::Insert => insert(alloc),
-        Kind::Retrieve => Request::retrieve(alloc, b"a"),
-        Kind::Remove => Request::remove(alloc, b"a", b"y"),
-    }
-}
-
-/// What a client does with what it is answered, what its server does, or what is there then.
-#[derive(Clone, Copy)]
-enum Line {
-    Sends(Kind, Result<u64, SendFault>),
-    /// It sends inserts with the numbers from the first to the last.
-    Inserts(u64, u64),
-    /// It sends the request of this number again.
-    Again(u64, Result<(), AgainFault>),
-    /// A server over a plain map answers all that was written.
-    Served,
-    /// A server over a store that is full at first answers all that was written. The client read
-    /// this many bytes of its answers before.
-    ServedLate(usize),
-    /// These bytes come from its server.
-    Comes(&'static [u8]),
-    /// It receives an answer.
-    Receives(Told),
-    /// It receives the replies to the numbers from the first to the last, and each raises its floor
-    /// to its number.
-    Raised(u64, u64),
-    /// How many answers it waits for, its floor, and whether it is full.
-    Stands(usize, u64, bool),
-    /// The number of its last request.
-    Last(u64),
-    /// How many bytes it wrote, and the last of them.
-    Wrote(usize, &'static [u8]),
-}
-
-type Script = &'static [Line];
-
-/// A client, what it wrote, and what came from its server, which it received up to a place.
-#[derive(Drop)]
-struct Flight {
-    alloc: Global,
-    client: WireClient,
-    written: Vec<u8>,
-    answers: Vec<u8>,
-    place: usize,
-}
-
-impl Flight {
-    fn new(alloc: Global, version: u8, window: u64) -> Option<Flight> {
-        let client = WireClient::new(alloc, version, window)?;
-        Some(Flight {
-            alloc,
-            client,
-            written: Vec::new(alloc),
-            answers: Vec::new(alloc),
-            place: 0,
-        })
-    }
-
-    fn send(&mut self, kind: Kind) -> Result<u64, SendFault> {
-        match request_of(self.alloc, kind) {
-            Ok(request) => send(&mut self.client, &mut self.written, request),
-            Err(_) => Err(SendFault::Memory),
-        }
-    }
-
-    fn inserts(&mut self, first: u64, last: u64) -> bool {
-        let mut are_sent = true;
-        for number in first..=last {
-            are_sent &= self.send(Kind::Insert) == Ok(number);
-        }
-        are_sent
-    }
-
-    fn serve<A: Asker + Drop>(&mut self, asker: A, place: usize) -> bool {
-        let (end, answers) = served(self.alloc, &self.written, asker);
-        self.answers = answers;
-        self.place = place;
-        end == Served::Ended
-    }
-
-    fn come(&mut self, bytes: &[u8]) -> bool {
-        self.answers.clear();
-        self.place = 0;
-        self.answers.extend_from_slice(bytes).is_ok()
-    }
-
-    fn receive(&mut self) -> Told {
-        let mut reader = self.answers.get(self.place..).unwrap_or(&[]);
-        let received = self.client.receive(&mut reader, 10);
-        self.place = self.answers.len().saturating_sub(reader.len());
-        told_of(received)
-    }
-
-    fn is_raised(&mut self, first: u64, last: u64) -> bool {
-        let mut is_raised = true;
-        for number in first..=last {
-            let received = self.receive();
-            is_raised &= received == Told::Reply(number, Word::Added)
-                || received == Told::Reply(number, Word::Present);
-            is_raised &= self.client.floor() == number;
-        }
-        is_raised
-    }
-
-    fn stands(&self) -> (usize, u64, bool) {
-        let client = &self.client;
-        (client.in_flight(), client.floor(), client.is_full())
-    }
-
-    /// Whether the line goes as it says.
-    fn goes(&mut self, line: Line) -> bool {
-        let alloc = self.alloc;
-        match line {
-            Line::Sends(kind, wanted) => self.send(kind) == wanted,
-            Line::Inserts(first, last) => self.inserts(first, last),
-            Line::Again(number, wanted) => self.client.again(&mut self.written, number) == wanted,
-            Line::Served => self.serve(MapAsker::new(alloc), 0),
-            Line::ServedLate(place) => self.serve(LateAsker::new(alloc, AtFirst::Full), place),
-            Line::Comes(bytes) => self.come(bytes),
-            Line::Receives(wanted) => self.receive() == wanted,
-            Line::Raised(first, last) => self.is_raised(first, last),
-            Line::Stands(awaited, floor, is_full) => self.stands() == (awaited, floor, is_full),
-            Line::Last(number) => self.client.last() == number,
-            Line::Wrote(len, frame) => self.written.len() == len && self.written.ends_with(frame),
-        }
-    }
-}
-
-/// The place of the first line that does not go as it says, if there is one, for a client of this
-/// version and window.
-fn other_line(alloc: Global, version: u8, window: u64, script: &[Line]) -> Option<usize> {
-    let Some(mut flight) = Flight::new(alloc, version, window) else {
-        return Some(0);
-    };
-    let mut other = None;
-    for (place, line) in script.iter().enumerate() {
-        if other.is_none() && !flight.goes(*line) {
-            other = Some(place);
-        }
-    }
-    drop(flight);
-    other
-}
-
-/// Sends a request that keeps the limits.
-pub fn send<W: Write>(
-    client: &mut WireClient,
-    writer: &mut W,
-    request: Request,
-) -> Result<u64, SendFault> {
-    if request.check().is_err() {
-        drop(request);
-        return Err(SendFault::Memory);
-    }
-    client.send(writer, request)
-}
-
-/// What the server writes for these bytes.
-fn served<A: Asker + Drop>(alloc: Global, input: &[u8], asker: A) -> (Served, Vec<u8>) {
-    let mut reader = input;
-    let mut written = Vec::new(alloc);
-    let (served, asker) = serve(alloc, &mut reader, &mut written, asker, ReadSize::Small, 10);
-    drop(asker);
-    (served, written)
-}
-
-fn is_window(alloc: Global, version: u8, window: u64) -> bool {
-    let client = WireClient::new(alloc, version, window);
-    let is_one = client.is_some();
-    drop(client);
-    is_one
-}
+== faults have texts
+says ended > no answer came: the other end ended the connection
+says idle > no answer is awaited
+says full > as many requests as the window holds are in flight
+says not-refused > no request of this number got a fault and was not sent again since
+";
 
 #[test]
-fn which_windows(rt: HostRuntime) {
-    for (version, window, is_one) in [
-        (1, 1, true),
-        (1, 0, false),
-        (1, 2, false),
-        (2, 0, false),
-        (2, 1, true),
-        (2, 16, true),
-        (2, 17, false),
-        (3, 1, false),
-        (0, 1, false),
-    ] {
-        let some = is_window(rt.alloc(), version, window);
-        assert!(rt; some == is_one, "{version} {window}");
-    }
-}
-
-const SIXTEEN: Script = &[
-    Line::Inserts(1, 1),
-    Line::Wrote(27, FIRST),
-    Line::Inserts(2, 16),
-    Line::Stands(16, 0, true),
-    Line::Wrote(432, SIXTEENTH),
-];
-
-#[test]
-fn sixteen_in_flight(rt: HostRuntime) {
-    check!(&rt; other_line(rt.alloc(), 2, 16, SIXTEEN) == None);
-}
-
-const SEVENTEEN: Script = &[
-    Line::Inserts(1, 16),
-    Line::Sends(Kind::Insert, Err(SendFault::WindowFull)),
-    Line::Wrote(432, SIXTEENTH),
-];
-
-#[test]
-fn a_full_window_sends_nothing(rt: HostRuntime) {
-    check!(&rt; other_line(rt.alloc(), 2, 16, SEVENTEEN) == None);
-}
-
-const SIXTEEN_ANSWERED: Script = &[
-    Line::Inserts(1, 16),
-    Line::Served,
-    Line::Raised(1, 16),
-    Line::Sends(Kind::Insert, Ok(17)),
-    Line::Wrote(459, NEXT),
-];
-
-/// Sixteen requests are sent before an answer is read, and the next one has the floor 16.
-#[test]
-fn sixteen_answers_raise_the_floor(rt: HostRuntime) {
-    check!(&rt; other_line(rt.alloc(), 2, 16, SIXTEEN_ANSWERED) == None);
-}
-
-const REFUSED_TWICE: Script = &[
-    Line::Inserts(1, 2),
-    Line::ServedLate(0),
-    Line::Receives(Told::Fault(1, FaultCode::Full)),
-    Line::Receives(Told::Fault(2, FaultCode::Full)),
-    Line::Stands(0, 0, true),
-];
-
-#[test]
-fn a_full_store_keeps_the_window(rt: HostRuntime) {
-    check!(&rt; other_line(rt.alloc(), 2, 2, REFUSED_TWICE) == None);
-}
-
-const NOT_REFUSED: Script = &[
-    Line::Inserts(1, 2),
-    Line::Again(1, Err(AgainFault::NotRefused)),
-];
-
-const REFUSED_ONCE: Script = &[
-    Line::Inserts(1, 2),
-    Line::ServedLate(0),
-    Line::Receives(Told::Fault(1, FaultCode::Full)),
-    Line::Receives(Told::Fault(2, FaultCode::Full)),
-    Line::Again(3, Err(AgainFault::NotRefused)),
-    Line::Again(2, Ok(())),
-    Line::Again(2, Err(AgainFault::NotRefused)),
-    Line::Again(1, Ok(())),
-];
-
-#[test]
-fn only_what_was_refused_is_sent_again(rt: HostRuntime) {
-    check!(&rt; other_line(rt.alloc(), 2, 2, NOT_REFUSED) == None);
-    check!(&rt; other_line(rt.alloc(), 2, 2, REFUSED_ONCE) == None);
-}
-
-const SENT_AGAIN: Script = &[
-    Line::Inserts(1, 1),
-    Line::Wrote(27, FIRST),
-    Line::Inserts(2, 2),
-    Line::Wrote(54, SECOND),
-    Line::ServedLate(0),
-    Line::Receives(Told::Fault(1, FaultCode::Full)),
-    Line::Receives(Told::Fault(2, FaultCode::Full)),
-    Line::Again(2, Ok(())),
-    Line::Wrote(81, SECOND),
-    Line::Again(1, Ok(())),
-    Line::Wrote(108, FIRST),
-];
-
-/// Requests that a full store refused are sent again unchanged, in any order.
-#[test]
-fn a_full_store_is_asked_again(rt: HostRuntime) {
-    check!(&rt; other_line(rt.alloc(), 2, 2, SENT_AGAIN) == None);
-}
-
-const ANSWERED_AGAIN: Script = &[
-    Line::Inserts(1, 2),
-    Line::ServedLate(0),
-    Line::Receives(Told::Fault(1, FaultCode::Full)),
-    Line::Receives(Told::Fault(2, FaultCode::Full)),
-    Line::Again(2, Ok(())),
-    Line::Again(1, Ok(())),
-    // The two faults came before.
-    Line::ServedLate(30),
-    Line::Receives(Told::Reply(2, Word::Added)),
-    Line::Stands(1, 0, true),
-    Line::Receives(Told::Reply(1, Word::Added)),
-    Line::Stands(0, 2, false),
-];
-
-/// Requests sent again are answered, and the floor waits for the least number.
-#[test]
-fn what_is_sent_again_is_answered(rt: HostRuntime) {
-    check!(&rt; other_line(rt.alloc(), 2, 2, ANSWERED_AGAIN) == None);
-}
-
-const ONE: Script = &[
-    Line::Sends(Kind::Insert, Ok(1)),
-    Line::Wrote(19, OLD),
-    Line::Stands(1, 0, true),
-];
-
-#[test]
-fn one_at_a_time(rt: HostRuntime) {
-    check!(&rt; other_line(rt.alloc(), 1, 1, ONE) == None);
-}
-
-const HELD_BACK: Script = &[
-    Line::Sends(Kind::Insert, Ok(1)),
-    Line::Wrote(19, OLD),
-    Line::Comes(NO_ANSWER),
-    Line::Receives(Told::Fault(1, FaultCode::NoAnswer)),
-    Line::Sends(Kind::Retrieve, Err(SendFault::WindowFull)),
-    Line::Again(1, Ok(())),
-    Line::Wrote(38, OLD),
-];
-
-/// In version 1 a request that got no reply holds back the next one.
-#[test]
-fn an_unanswered_request_holds_back_the_next(rt: HostRuntime) {
-    check!(&rt; other_line(rt.alloc(), 1, 1, HELD_BACK) == None);
-}
-
-const ANSWERED_THEN: Script = &[
-    Line::Sends(Kind::Insert, Ok(1)),
-    Line::Comes(NO_ANSWER),
-    Line::Receives(Told::Fault(1, FaultCode::NoAnswer)),
-    Line::Again(1, Ok(())),
-    Line::Comes(ADDED_1),
-    Line::Receives(Told::Reply(1, Word::Added)),
-    Line::Stands(0, 1, false),
-];
-
-#[test]
-fn an_unanswered_request_is_answered_then(rt: HostRuntime) {
-    check!(&rt; other_line(rt.alloc(), 1, 1, ANSWERED_THEN) == None);
-}
-
-/// Each way in which no answer comes; the request still waits for its answer.
-#[test]
-fn answers_that_are_none(rt: HostRuntime) {
-    for (input, fault) in [
-        ([].as_slice(), ReceiveFault::Call(CallFault::Ended)),
-        (CUT, ReceiveFault::Call(CallFault::Ended)),
-        (
-            BAD,
-            ReceiveFault::Call(CallFault::Malformed(FaultCode::BadVersion)),
-        ),
-        (ADDED_2, ReceiveFault::WrongNumber),
-        (BAD_LENGTH, ReceiveFault::WrongNumber),
-        (NO_CALLER, ReceiveFault::CallersSpent),
-        (REMOVED, ReceiveFault::WrongKind),
-    ] {
-        let script = [
-            Line::Comes(input),
-            Line::Receives(Told::Nothing(ReceiveFault::Idle)),
-            Line::Sends(Kind::Insert, Ok(1)),
-            Line::Receives(Told::Nothing(fault)),
-            Line::Stands(1, 0, false),
-        ];
-        check!(&rt; other_line(rt.alloc(), 2, 16, &script) == None);
-    }
-}
-
-/// Whether a writer with room for `room` bytes takes the fault that no caller is left, and what it
-/// has then.
-fn no_caller_told(alloc: Global, room: usize) -> (bool, [u8; 15]) {
-    let mut bytes = [0u8; 15];
-    let (mut writer, _) = bytes.split_at_mut(room.min(15));
-    let is_told = tell_callers_spent(alloc, &mut writer).is_ok();
-    (is_told, bytes)
-}
-
-/// The fault of a connection that finds no caller is one frame: fault 15 of request 0.
-#[test]
-fn a_connection_without_a_caller_is_told(rt: HostRuntime) {
-    check!(&rt; no_caller_told(rt.alloc(), 15) == (true, fault(0, 15)));
-    let (is_told, bytes) = no_caller_told(rt.alloc(), 6);
-    check!(&rt; !is_told, "the writer has room for 6 bytes");
-    check!(&rt;
-        bytes[..6] == fault(0, 15)[..6],
-        "they are the first of the frame"
-    );
-}
-
-/// Why a client receives no reply, or `None` if it does,
-/// from a reader that gives one byte a call and then fails.
-fn read_slowly(alloc: Global, calls: u64, turns: u64) -> Option<Option<ReceiveFault>> {
-    let mut flight = Flight::new(alloc, 2, 4)?;
-    let is_sent = flight.inserts(1, 1);
-    let mut reader = Limited::new(ADDED_1, Limits { step: 1, calls });
-    let why = flight.client.receive(&mut reader, turns).err();
-    drop(flight);
-    is_sent.then_some(why)
-}
-
-/// A reader that gives one byte a call is read up to the limit; one that fails ends the wait.
-#[test]
-fn slow_and_failing_readers(rt: HostRuntime) {
-    for (calls, turns, wanted) in [
-        (20, 14, Some(ReceiveFault::Call(CallFault::TurnsSpent))),
-        (14, 20, Some(ReceiveFault::Call(CallFault::Read))),
-        (20, 15, None),
-    ] {
-        check!(&rt; read_slowly(rt.alloc(), calls, turns) == Some(wanted));
-    }
-}
-
-/// A client whose writer failed behind 7 bytes of its first request.
-#[derive(Clone, Copy)]
-struct InPart {
-    /// What sending was answered.
-    sent: Result<u64, SendFault>,
-    /// Whether the 7 bytes were written, how many answers it waits for then, and its last number.
-    begins: bool,
-    awaited: usize,
-    last: u64,
-    /// What it receives when a store was full, what sending again is answered, and how many
-    /// answers it waits for then.
-    refused: Told,
-    again: Result<(), AgainFault>,
-    awaited_again: usize,
-}
-
-fn sent_in_part(alloc: Global) -> Option<InPart> {
-    let request = insert(alloc).ok()?;
-    let mut client = WireClient::new(alloc, 2, 16)?;
-    let mut writer = Limited::new(Vec::new(alloc), Limits { step: 7, calls: 1 });
-    let sent = send(&mut client, &mut writer, request);
-    let begins = writer.inner.as_slice() == &INSERT_2[..7];
-    let (awaited, last) = (client.in_flight(), client.last());
-    let refused = told_of(client.receive(&mut fault(1, 10).as_slice(), 1));
-    let again = client.again(&mut writer, 1);
-    let awaited_again = client.in_flight();
-    drop(writer);
-    drop(client);
-    Some(InPart {
-        sent,
-        begins,
-        awaited,
-        last,
-        refused,
-        again,
-        awaited_again,
-    })
-}
-
-/// A request whose frame was written only in part counts as sent.
-#[test]
-fn a_writer_that_fails(rt: HostRuntime) {
-    let seen = sent_in_part(rt.alloc()).expect(&rt, "memory for an insert");
-    check!(&rt; seen.sent == Err(SendFault::Write), "the writer fails");
-    check!(&rt; seen.begins, "7 bytes are written");
-    check!(&rt; seen.awaited == 1, "an answer may come");
-}
-
-#[test]
-fn a_writer_that_fails_again(rt: HostRuntime) {
-    let seen = sent_in_part(rt.alloc()).expect(&rt, "memory for an insert");
-    check!(&rt;
-        seen.refused == Told::Fault(1, FaultCode::Full),
-        "its answer came"
-    );
-    check!(&rt;
-        seen.again == Err(AgainFault::Write),
-        "the writer fails again"
-    );
-    check!(&rt; seen.awaited_again == 1, "another answer may come");
-}
-
-/// The last one is refused.
-const LAST_NUMBERS: Script = &[
-    Line::Last(0),
-    Line::Sends(Kind::Insert, Ok(1)),
-    Line::Last(1),
-    Line::Sends(Kind::Retrieve, Ok(2)),
-    Line::Last(2),
-    Line::Sends(Kind::Remove, Err(SendFault::WindowFull)),
-    Line::Last(2),
-];
-
-#[test]
-fn a_client_tells_the_number_of_its_last_request(rt: HostRuntime) {
-    check!(&rt; other_line(rt.alloc(), 2, 2, LAST_NUMBERS) == None);
-    let in_part = sent_in_part(rt.alloc()).expect(&rt, "memory for an insert");
-    check!(&rt; in_part.last == 1, "a part of it was written");
-}
-
-const IN_ORDER: Script = &[
-    Line::Sends(Kind::Insert, Ok(1)),
-    Line::Sends(Kind::Retrieve, Ok(2)),
-    Line::Sends(Kind::Remove, Ok(3)),
-    Line::Served,
-    Line::Receives(Told::Reply(1, Word::Added)),
-    Line::Receives(Told::Reply(2, Word::X)),
-    Line::Receives(Told::Reply(3, Word::Absent)),
-];
-
-/// Replies are those of a plain map, in the order of the requests.
-#[test]
-fn replies_in_order(rt: HostRuntime) {
-    check!(&rt; other_line(rt.alloc(), 2, 3, IN_ORDER) == None);
+fn clients_have_requests_in_flight(rt: HostRuntime) -> Result<(), Fail> {
+    follow::<Flight>(rt.alloc(), SENT)?;
+    follow::<Flight>(rt.alloc(), FAULTS)
 }

@@ -1,763 +1,231 @@
-use super::askers::{AtFirst, LateAsker};
-use crate::checks::check;
-use chord_map::{Reply, Request};
-use chord_serve::{Asker, CallFault, ReadSize, Served, call, call_2, laws, serve};
-use chord_serve_testkit::{FREE, Limited, Limits, MapAsker};
-use chord_wire::{Answer, Answers, FaultCode};
-use std::alloc::{AllocError, Global};
-use std::io::{Read, Write};
+//! Connections without a session that goes on: what is written, how they end, and calls.
 
-// Insert x under a, number 1.
-pub const INSERT: [u8; 19] = [
-    0, 0, 0, 0x0f, 1, 1, 0, 0, 0, 0, 0, 0, 0, 1, 1, 0x61, 0, 1, 0x78,
-];
+use super::serving::Serving;
+use crate::askers::Scripted;
+use chord_serve::laws;
+use chord_testkit::follow;
+use std::test::Fail;
 
-// Insert x under a, number 1, in version 2 with floor 0.
-pub const INSERT_2: [u8; 27] = [
-    0, 0, 0, 0x17, 2, 1, 0, 0, 0, 0, 0, 0, 0, 1, 0, 0, 0, 0, 0, 0, 0, 0, 1, 0x61, 0, 1, 0x78,
-];
+/// Requests and their answers.
+pub const SERVED: &str = "
+== a number is one request's and is asked once
+# the same again gets its reply; another under its number gets 8, and a number out of line 9
+serve insert.1.a.x insert.1.a.x insert.1.a.y retrieve.3.a > Ended 2*added.1 fault.1.8 fault.3.9, asked 1, reads 2, writes 1
 
-// Retrieve a, number 2.
-pub const RETRIEVE: [u8; 16] = [0, 0, 0, 0x0c, 1, 2, 0, 0, 0, 0, 0, 0, 0, 2, 1, 0x61];
+== a request that got a fault is asked again; a request without an answer gets fault 11; a floor gives up numbers without a reply
+# a new request once, and again once: not after its reply
+full 3*insert.1.a.x > Ended fault.1.10 2*added.1, asked 1, retried 1, floor 0, reads 2, writes 1
+late 3*insert.1.a.x > Ended fault.1.11 2*added.1, asked 1, retried 1, floor 0, reads 2, writes 1
+# floor 1 gives up 1; 2 is added when it is asked again; 3 gets no reply; 1 and 2 are at or below
+# floor 2; 3 is present when it is asked again, in a frame with a lower floor
+full insert.1/0.a.x insert.2/0.a.x insert.2/1.a.x insert.3/2.a.x insert.1/0.a.x insert.2/1.a.x insert.3/0.a.x > Ended fault.1.10 fault.2.10 added.2 fault.3.10 fault.1.9 fault.2.9 present.3, asked 3, retried 2, floor 2, reads 2, writes 1
 
-// Remove x from under a, number 3.
-const REMOVE: [u8; 19] = [
-    0, 0, 0, 0x0f, 1, 3, 0, 0, 0, 0, 0, 0, 0, 3, 1, 0x61, 0, 1, 0x78,
-];
+== version 1 goes on behind a fault
+# the next number is asked, and gives up the one before
+late insert.1.a.x insert.2.a.y insert.1.a.x > Ended fault.1.11 fault.2.11 fault.1.9, asked 2, retried 0, floor 1, reads 2, writes 1
 
-pub const ADDED: [u8; 15] = [0, 0, 0, 0x0b, 1, 0x81, 0, 0, 0, 0, 0, 0, 0, 1, 1];
+== a session ends with its input
+serve > Ended, asked 0, reads 1, writes 0
+serve x.000000 > Truncated, asked 0, reads 2, writes 0
+serve insert.1.a.x > Ended added.1, asked 1, reads 2, writes 1
+serve insert.1/0.a.x > Ended added.1, asked 1, reads 2, writes 1
 
-// The one value x, number 2.
-const ONE_VALUE: [u8; 21] = [
-    0, 0, 0, 0x11, 1, 0x82, 0, 0, 0, 0, 0, 0, 0, 2, 0, 0, 0, 1, 0, 1, 0x78,
-];
+== a faulty frame ends the session with its fault
+serve retrieve.2.a@4=09 > Malformed(BadVersion) fault.0.2, asked 0, reads 1, writes 1
+serve retrieve.2.a@5=04 > Malformed(BadOperation) fault.0.3, asked 0, reads 1, writes 1
+serve retrieve.2.a@14=00 > Malformed(BadKey) fault.2.4, asked 0, reads 1, writes 1
+serve insert.1.a.x@17=02 > Malformed(BadValue) fault.1.5, asked 0, reads 1, writes 1
+serve insert.1.a.x@17=00 > Malformed(Trailing) fault.1.6, asked 0, reads 1, writes 1
+serve insert.1/0.a.x@21=01 > Malformed(BadFloor) fault.1.12, asked 0, reads 1, writes 1
 
-const REMOVED: [u8; 15] = [0, 0, 0, 0x0b, 1, 0x83, 0, 0, 0, 0, 0, 0, 0, 3, 1];
+== a bad length ends a session; a session keeps its version
+# the length alone is told, with number 0
+serve x.00001115 > Malformed(BadLength) fault.0.1, asked 0, reads 1, writes 1
+# fault 2 is behind the first answer
+serve insert.1/0.a.x insert.1.a.x > Malformed(BadVersion) added.1 fault.0.2, asked 1, reads 1, writes 1
 
-pub fn fault(number: u8, code: u8) -> [u8; 15] {
-    [0, 0, 0, 0x0b, 1, 0xff, 0, 0, 0, 0, 0, 0, 0, number, code]
-}
+== a connection without an open is served as ever; a close without a session is refused
+serve 2*insert.1.a.x > Ended 2*added.1, asked 1, reads 2, writes 1
+serve close > Malformed(OutOfPlace) fault.0.16, asked 0, reads 1, writes 1
+# so is an open behind a request
+serve insert.1/0.a.x resume > Malformed(OutOfPlace) added.1 fault.0.16, asked 1, reads 1, writes 1
 
-pub fn joined(alloc: Global, parts: &[&[u8]]) -> Result<Vec<u8>, AllocError> {
-    let mut whole = Vec::new(alloc);
-    for part in parts {
-        whole.extend_from_slice(part)?;
-    }
-    Ok(whole)
-}
+== half a frame writes nothing; a refused frame goes out with the answers before it
+serve insert.1.a.x:18 > Truncated, asked 0, reads 2, writes 0
+# nothing behind it is asked
+serve 2*insert.1.a.x retrieve.2.a@5=04 insert.1.a.x > Malformed(BadOperation) 2*added.1 fault.0.3, asked 1, reads 1, writes 1
+";
 
-/// The input of a session, and its expected output.
-#[derive(Drop)]
-pub struct Frames {
-    pub input: Vec<u8>,
-    pub output: Vec<u8>,
-}
+/// The same over devices that move few bytes in a call, and fail after some calls. Three requests
+/// of 19, 16 and 19 bytes have answers of 15, 21 and 15.
+const LIMITED: &str = "
+== frames cut anywhere are answered as far as they are whole
+serve cut 0..0 three > Ended, asked 0, reads 1, writes 0
+serve cut 1..18 three > Truncated, asked 0, reads 2, writes 0
+serve cut 19..19 three > Ended added.1, asked 1, reads 2, writes 1
+serve cut 20..34 three > Truncated added.1, asked 1, reads 2, writes 1
+serve cut 35..35 three > Ended added.1 values.2.x, asked 2, reads 2, writes 1
+serve cut 36..53 three > Truncated added.1 values.2.x, asked 2, reads 2, writes 1
+serve cut 54..54 three > Ended added.1 values.2.x removed.3, asked 3, reads 2, writes 1
 
-impl Frames {
-    pub fn new(alloc: Global, input: &[&[u8]], output: &[&[u8]]) -> Result<Frames, AllocError> {
-        let input = joined(alloc, input)?;
-        let output = joined(alloc, output)?;
-        Ok(Frames { input, output })
-    }
+== a reader that fails ends the session
+# each call reads 7 bytes, and the ninth finds the end
+serve reads 7x0 three > Read, asked 0, reads 0, writes 0
+serve reads 7x1 three > Read, asked 0, reads 1, writes 0
+serve reads 7x2 three > Read, asked 0, reads 2, writes 0
+serve reads 7x3 three > Read added.1, asked 1, reads 3, writes 1
+serve reads 7x4 three > Read added.1, asked 1, reads 4, writes 1
+serve reads 7x5 three > Read added.1 values.2.x, asked 2, reads 5, writes 2
+serve reads 7x6 three > Read added.1 values.2.x, asked 2, reads 6, writes 2
+serve reads 7x7 three > Read added.1 values.2.x, asked 2, reads 7, writes 2
+serve reads 7x8 three > Read added.1 values.2.x removed.3, asked 3, reads 8, writes 3
+serve reads 7x9 three > Ended added.1 values.2.x removed.3, asked 3, reads 9, writes 3
 
-    pub fn both(&self) -> (&[u8], &[u8]) {
-        (&self.input, &self.output)
-    }
-}
+== a writer that fails ends the session; a writer that takes no byte ends the session
+# each call takes 7 of the 51 bytes, which are written together
+serve writes 7x0 three > Write, asked 3, reads 1, writes 0
+serve writes 7x1 three > Write x.0000000b018100, asked 3, reads 1, writes 1
+serve writes 7x2 three > Write x.0000000b01810000000000000001, asked 3, reads 1, writes 2
+serve writes 7x3 three > Write added.1 x.000000110182, asked 3, reads 1, writes 3
+serve writes 7x4 three > Write added.1 x.00000011018200000000000000, asked 3, reads 1, writes 4
+serve writes 7x5 three > Write added.1 x.0000001101820000000000000002000000010001, asked 3, reads 1, writes 5
+serve writes 7x6 three > Write added.1 values.2.x x.0000000b0183, asked 3, reads 1, writes 6
+serve writes 7x7 three > Write added.1 values.2.x x.0000000b018300000000000000, asked 3, reads 1, writes 7
+serve writes 7x8 three > Ended added.1 values.2.x removed.3, asked 3, reads 2, writes 8
+serve writes 0x20 three > Write, asked 3, reads 1, writes 1
 
-/// How many bytes the three frames have, and their answers.
-pub const THREE_FRAMES: usize = 54;
+== a session makes at most its turns of reads
+serve reads 30x100 turns 1 three > TurnsSpent added.1, asked 1, reads 1, writes 1
+serve reads 54x100 turns 1 three > TurnsSpent added.1 values.2.x removed.3, asked 3, reads 1, writes 1
+serve reads 54x100 turns 2 three > Ended added.1 values.2.x removed.3, asked 3, reads 2, writes 1
+serve reads 1x100 turns 60 three > Ended added.1 values.2.x removed.3, asked 3, reads 55, writes 3
+serve reads 1x100 turns 40 three > TurnsSpent added.1 values.2.x, asked 2, reads 40, writes 2
+serve reads 54x100 turns 0 three > TurnsSpent, asked 0, reads 0, writes 0
 
-pub const THREE_ANSWERS: usize = 51;
+== the answers to one read are one write
+serve reads 4096x100 three > Ended added.1 values.2.x removed.3, asked 3, reads 2, writes 1
+serve reads 54x100 three > Ended added.1 values.2.x removed.3, asked 3, reads 2, writes 1
+serve reads 35x100 three > Ended added.1 values.2.x removed.3, asked 3, reads 3, writes 2
+serve reads 19x100 three > Ended added.1 values.2.x removed.3, asked 3, reads 4, writes 3
+serve reads 1x100 three > Ended added.1 values.2.x removed.3, asked 3, reads 55, writes 3
 
-/// The three frames and their answers.
-pub fn three(alloc: Global) -> Result<Frames, AllocError> {
-    Frames::new(
-        alloc,
-        &[&INSERT, &RETRIEVE, &REMOVE],
-        &[&ADDED, &ONE_VALUE, &REMOVED],
-    )
-}
+== large reads double up to their size
+# 13,300 bytes: three reads of 4,096, one of 1,012, and the end; one of 4,096, one of 8,192, one of
+# 1,012, and the end
+serve 700*insert.1.a.x > Ended 700*added.1, asked 1, reads 5, writes 4
+serve large 700*insert.1.a.x > Ended 700*added.1, asked 1, reads 4, writes 3
 
-/// How many bytes were written, if they are a prefix of this output.
-pub fn begun(output: &[u8], written: &[u8]) -> Option<usize> {
-    if output.starts_with(written) {
-        Some(written.len())
-    } else {
-        None
-    }
-}
+== a failed write ends the session; a write that fails is the end though a frame was refused
+# each of three reads has one frame
+serve reads 19x100 writes 4096x0 three > Write, asked 1, reads 1, writes 0
+serve reads 19x100 writes 4096x1 three > Write added.1, asked 2, reads 2, writes 1
+serve reads 19x100 writes 4096x2 three > Write added.1 values.2.x, asked 3, reads 3, writes 2
+serve reads 19x100 writes 4096x3 three > Ended added.1 values.2.x removed.3, asked 3, reads 4, writes 3
+serve writes 4096x0 2*insert.1.a.x retrieve.2.a@5=04 insert.1.a.x > Write, asked 1, reads 1, writes 0
 
-/// The devices of a session, and how large and how many its reads may be.
-#[derive(Clone, Copy)]
-pub struct Conditions {
-    pub reads: Limits,
-    pub writes: Limits,
-    pub size: ReadSize,
-    pub turns: u64,
-}
+== what is due is written before memory ends a session; a write fails though memory ran out
+memory 1 insert.1.a.x insert.2.a.x insert.3.a.x > Memory, asked 1, reads 1, writes 0
+memory 2 insert.1.a.x insert.2.a.x insert.3.a.x > Memory added.1, asked 2, reads 1, writes 1
+memory 3 insert.1.a.x insert.2.a.x insert.3.a.x > Memory added.1 present.2, asked 3, reads 1, writes 1
+# all three were asked before the write
+memory 3 writes 4096x0 insert.1.a.x insert.2.a.x insert.3.a.x > Write, asked 3, reads 1, writes 0
 
-/// Conditions that end no session of these tests before its input ends.
-const AMPLE: Conditions = Conditions {
-    reads: FREE,
-    writes: FREE,
-    size: ReadSize::Small,
-    turns: 10,
-};
+== more than 64 kib are written at once; a second write that fails leaves the first
+serve values 1 retrieve.1.a retrieve.2.a retrieve.3.a > Ended values.1#4116 values.2#4116 values.3#4116, asked 3, reads 2, writes 1
+serve values 15 retrieve.1.a retrieve.2.a retrieve.3.a > Ended values.1#61488 values.2#61488 values.3#61488, asked 3, reads 2, writes 2
+serve values 16 retrieve.1.a retrieve.2.a retrieve.3.a > Ended values.1#65586 values.2#65586 values.3#65586, asked 3, reads 2, writes 3
+serve values 16 writes 4096000x1 retrieve.1.a retrieve.2.a retrieve.3.a > Write values.1#65586, asked 2, reads 1, writes 1
+";
 
-/// What a session did.
-#[derive(Clone, Copy, PartialEq, Eq)]
-pub struct Seen {
-    /// How it ended.
-    pub end: Served,
-    /// How many bytes it wrote.
-    pub len: usize,
-    /// The same, if these begin the expected output.
-    pub answered: Option<usize>,
-    /// Whether they are the expected output.
-    pub is_whole: bool,
-    /// How many of its reads and writes did not fail.
-    pub reads: u64,
-    pub writes: u64,
-}
+/// How large reads are, and output.
+const SIZES: &str = "
+== sizes of reads; output above 64 kib is full; output that is due is written
+small-reads > 4096
+large-reads > 65536
+due 0 0 > full No, wrote 0 true, then nothing true
+due 65536 0 > full No, wrote 65536 true, then nothing true
+due 65537 0 > full Yes, wrote 65537 true, then nothing true
+# all of it, and once
+due 3 2 > full No, wrote 5 true, then nothing true
+";
 
-/// What a session did, and how many new requests its asker was asked.
-#[derive(Clone, Copy, PartialEq, Eq)]
-pub struct Talk {
-    pub seen: Seen,
-    pub asked: usize,
-}
+/// How a connection begins.
+const GREETINGS: &str = "
+== an open is taken and what is behind it stays
+greet open insert.1/0.a.x > open, taken 39, token 0102030405060708090a0b0c0d0e0f10
+greet resume > resume, taken 39, token 0102030405060708090a0b0c0d0e0f10
 
-/// A session under these conditions, and its asker.
-pub fn limited<A: Asker + Drop>(
-    alloc: Global,
-    (input, output): (&[u8], &[u8]),
-    conditions: Conditions,
-    asker: A,
-) -> (Seen, A) {
-    let mut reader = Limited::new(input, conditions.reads);
-    let mut writer = Limited::new(Vec::new(alloc), conditions.writes);
-    let Conditions { size, turns, .. } = conditions;
-    let (end, asker) = serve(alloc, &mut reader, &mut writer, asker, size, turns);
-    let seen = Seen {
-        end,
-        len: writer.inner.len(),
-        answered: begun(output, &writer.inner),
-        is_whole: writer.inner.as_slice() == output,
-        reads: reader.calls,
-        writes: writer.calls,
-    };
-    drop(writer);
-    (seen, asker)
-}
+== another beginning is left as it is; an open is known once it is whole
+greet cut 0..5 insert.1.a.x > more, taken 0
+greet cut 6..19 insert.1.a.x > no open, taken 0
+greet cut 0..5 close > more, taken 0
+greet cut 6..22 close > no open, taken 0
+# it neither begins a session nor resumes one
+greet cut 0..38 open@38=02 > more, taken 0
+greet cut 39..39 open@38=02 > no open, taken 0
+# the length is refused
+greet cut 0..3 x.0000000102040000 > more, taken 0
+greet cut 4..8 x.0000000102040000 > no open, taken 0
+greet cut 0..38 resume > more, taken 0
 
-/// A session over these frames, and its asker.
-fn session<A: Asker + Drop>(
-    alloc: Global,
-    asker: A,
-    input: &[&[u8]],
-    output: &[&[u8]],
-) -> (Option<Seen>, A) {
-    let Ok(frames) = Frames::new(alloc, input, output) else {
-        return (None, asker);
-    };
-    let (seen, asker) = limited(alloc, frames.both(), AMPLE, asker);
-    drop(frames);
-    (Some(seen), asker)
-}
+== a client is told why no session begins; a connection without a caller is told
+tell known > told fault.0.13
+tell none > told fault.0.14
+tell spent > told fault.0.15
+tell spent room 6 > not told x.0000000b01ff
 
-/// A session over a plain map.
-fn mapped(alloc: Global, input: &[&[u8]], output: &[&[u8]]) -> Option<Talk> {
-    let (seen, asker) = session(alloc, MapAsker::new(alloc), input, output);
-    let asked = asker.requests.len();
-    drop(asker);
-    Some(Talk { seen: seen?, asked })
-}
-
-/// A session over an asker that has no reply at first, how often it was asked again, and up to which
-/// number the last question gave requests up.
-#[derive(Clone, Copy)]
-struct LateTalk {
-    seen: Seen,
-    asked: usize,
-    retried: u64,
-    floor: u64,
-}
-
-fn late(alloc: Global, at_first: AtFirst, input: &[&[u8]], output: &[&[u8]]) -> Option<LateTalk> {
-    let (seen, asker) = session(alloc, LateAsker::new(alloc, at_first), input, output);
-    let (asked, retried, floor) = (asker.requests.len(), asker.retried, asker.floor);
-    drop(asker);
-    Some(LateTalk {
-        seen: seen?,
-        asked,
-        retried,
-        floor,
-    })
-}
-
-/// An insert of x under number 1, twice; one of y under it; and a retrieve under number 3.
-const REPEATED: &[&[u8]] = &[
-    &INSERT,
-    &INSERT,
-    b"\x00\x00\x00\x0f\x01\x01\x00\x00\x00\x00\x00\x00\x00\x01\x01a\x00\x01y",
-    b"\x00\x00\x00\x0c\x01\x02\x00\x00\x00\x00\x00\x00\x00\x03\x01a",
-];
-
-/// Added, twice; the number is another request's; the number is out of line.
-const ANSWERED_ONCE: &[&[u8]] = &[
-    &ADDED,
-    &ADDED,
-    b"\x00\x00\x00\x0b\x01\xff\x00\x00\x00\x00\x00\x00\x00\x01\x08",
-    b"\x00\x00\x00\x0b\x01\xff\x00\x00\x00\x00\x00\x00\x00\x03\x09",
-];
+== a session of a connection has no version yet
+# nothing was asked
+anew > floor 0, last 0, asked 0
+";
 
 #[test]
-fn a_number_is_one_requests_and_is_asked_once(rt: HostRuntime) {
-    let talk = mapped(rt.alloc(), REPEATED, ANSWERED_ONCE).expect(&rt, "memory for four frames");
-    check!(&rt;
-        talk.seen.end == Served::Ended,
-        "the session goes on to the end of the input"
-    );
-    check!(&rt;
-        talk.seen.is_whole,
-        "a repeat gets its reply; others get 8 and 9"
-    );
-    check!(&rt;
-        talk.asked == 1,
-        "the repeat and the refused ones are not asked"
-    );
+fn connections_are_served(rt: HostRuntime) -> Result<(), Fail> {
+    follow::<Serving>(rt.alloc(), SERVED)?;
+    follow::<Serving>(rt.alloc(), LIMITED)?;
+    follow::<Serving>(rt.alloc(), SIZES)?;
+    follow::<Serving>(rt.alloc(), GREETINGS)
 }
 
-/// The same insert, three times.
-const THREE_TIMES: &[&[u8]] = &[&INSERT, &INSERT, &INSERT];
+/// Calls. A request takes three writes of 7 bytes in version 1 and four in version 2, and an answer
+/// three reads.
+pub const CALLS: &str = "
+== a call writes its frame and reads its answer
+call 1 added.1 > 1 added, reads 1, wrote insert.1.a.x
+call-on 2 added.1 > 1 added, reads 1, wrote insert.1/0.a.x
 
-/// The store is full, or no answer came in time; and then it is added.
-const FULL_FIRST: &[&[u8]] = &[
-    b"\x00\x00\x00\x0b\x01\xff\x00\x00\x00\x00\x00\x00\x00\x01\x0a",
-    &ADDED,
-    &ADDED,
-];
+== a call makes no read more than it needs
+call 1 reads 7x9 writes 7x3 turns 3 added.1 > 1 added, reads 3, wrote insert.1.a.x
+call 2 reads 7x9 writes 7x4 turns 3 added.1 > 1 added, reads 3, wrote insert.1/0.a.x
 
-const LATE_FIRST: &[&[u8]] = &[
-    b"\x00\x00\x00\x0b\x01\xff\x00\x00\x00\x00\x00\x00\x00\x01\x0b",
-    &ADDED,
-    &ADDED,
-];
+== a call says why it has no answer
+call 1 reads 7x9 writes 7x3 turns 9 > Ended, reads 1, wrote insert.1.a.x
+call 2 reads 7x9 writes 7x4 turns 9 > Ended, reads 1, wrote insert.1/0.a.x
+call 1 reads 7x1 writes 7x3 turns 9 added.1 > Read, reads 1, wrote insert.1.a.x
+call 2 reads 7x1 writes 7x4 turns 9 added.1 > Read, reads 1, wrote insert.1/0.a.x
+call 1 reads 7x0 writes 7x3 turns 9 added.1 > Read, reads 0, wrote insert.1.a.x
+call 2 reads 7x0 writes 7x4 turns 9 added.1 > Read, reads 0, wrote insert.1/0.a.x
+# one write too few, and none
+call 1 reads 7x9 writes 7x2 turns 9 added.1 > Write, reads 0, wrote x.0000000f01010000000000000001
+call 2 reads 7x9 writes 7x3 turns 9 added.1 > Write, reads 0, wrote x.000000170201000000000000000100000000000000
+call 1 reads 7x9 writes 7x0 turns 9 added.1 > Write, reads 0, wrote
+call 2 reads 7x9 writes 7x0 turns 9 added.1 > Write, reads 0, wrote
+call 1 reads 7x9 writes 7x3 turns 2 added.1 > TurnsSpent, reads 2, wrote insert.1.a.x
+call 2 reads 7x9 writes 7x4 turns 2 added.1 > TurnsSpent, reads 2, wrote insert.1/0.a.x
+call 1 reads 7x9 writes 7x3 turns 0 added.1 > TurnsSpent, reads 0, wrote insert.1.a.x
+call 2 reads 7x9 writes 7x4 turns 0 added.1 > TurnsSpent, reads 0, wrote insert.1/0.a.x
+# answers have version 1
+call 1 reads 7x9 writes 7x3 turns 9 added.1@4=02 > Malformed(BadVersion), reads 3, wrote insert.1.a.x
+call 2 reads 7x9 writes 7x4 turns 9 added.1@4=02 > Malformed(BadVersion), reads 3, wrote insert.1/0.a.x
+";
 
 #[test]
-fn a_request_that_got_a_fault_is_asked_again(rt: HostRuntime) {
-    let talk = late(rt.alloc(), AtFirst::Full, THREE_TIMES, FULL_FIRST);
-    let talk = talk.expect(&rt, "memory for three frames");
-    check!(&rt;
-        talk.seen.end == Served::Ended,
-        "the session goes on to the end of the input"
-    );
-    check!(&rt; talk.seen.is_whole, "full, then added, then the same reply");
-    check!(&rt; talk.asked == 1, "it is a new request once");
-    check!(&rt;
-        talk.retried == 1,
-        "it is asked again once, and not after its reply"
-    );
-}
-
-#[test]
-fn a_request_without_an_answer_gets_fault_11(rt: HostRuntime) {
-    let talk = late(rt.alloc(), AtFirst::NoAnswer, THREE_TIMES, LATE_FIRST);
-    let talk = talk.expect(&rt, "memory for three frames");
-    check!(&rt;
-        talk.seen.end == Served::Ended,
-        "the session goes on to the end of the input"
-    );
-    check!(&rt;
-        talk.seen.is_whole,
-        "no answer, then added, then the same reply"
-    );
-    check!(&rt; talk.asked == 1, "it is a new request once");
-    check!(&rt;
-        talk.retried == 1,
-        "it is asked again once, and not after its reply"
-    );
-}
-
-/// Requests 1 and 2 get no reply. Floor 1 gives up 1, and 2 is added when it is asked again. Then
-/// request 3 gets no reply either; 1 and 2 are at or below the floor; and 3 is added when it is
-/// asked again, in a frame with a lower floor.
-const FLOORS: &[&[u8]] = &[
-    &INSERT_2,
-    b"\x00\x00\x00\x17\x02\x01\x00\x00\x00\x00\x00\x00\x00\x02\x00\x00\x00\x00\x00\x00\x00\x00\x01a\x00\x01x",
-    b"\x00\x00\x00\x17\x02\x01\x00\x00\x00\x00\x00\x00\x00\x02\x00\x00\x00\x00\x00\x00\x00\x01\x01a\x00\x01x",
-    b"\x00\x00\x00\x17\x02\x01\x00\x00\x00\x00\x00\x00\x00\x03\x00\x00\x00\x00\x00\x00\x00\x02\x01a\x00\x01x",
-    &INSERT_2,
-    b"\x00\x00\x00\x17\x02\x01\x00\x00\x00\x00\x00\x00\x00\x02\x00\x00\x00\x00\x00\x00\x00\x01\x01a\x00\x01x",
-    b"\x00\x00\x00\x17\x02\x01\x00\x00\x00\x00\x00\x00\x00\x03\x00\x00\x00\x00\x00\x00\x00\x00\x01a\x00\x01x",
-];
-
-const FLOORS_ANSWERED: &[&[u8]] = &[
-    b"\x00\x00\x00\x0b\x01\xff\x00\x00\x00\x00\x00\x00\x00\x01\x0a",
-    b"\x00\x00\x00\x0b\x01\xff\x00\x00\x00\x00\x00\x00\x00\x02\x0a",
-    b"\x00\x00\x00\x0b\x01\x81\x00\x00\x00\x00\x00\x00\x00\x02\x01",
-    b"\x00\x00\x00\x0b\x01\xff\x00\x00\x00\x00\x00\x00\x00\x03\x0a",
-    b"\x00\x00\x00\x0b\x01\xff\x00\x00\x00\x00\x00\x00\x00\x01\x09",
-    b"\x00\x00\x00\x0b\x01\xff\x00\x00\x00\x00\x00\x00\x00\x02\x09",
-    b"\x00\x00\x00\x0b\x01\x81\x00\x00\x00\x00\x00\x00\x00\x03\x01",
-];
-
-#[test]
-fn a_floor_gives_up_numbers_without_a_reply(rt: HostRuntime) {
-    let talk = late(rt.alloc(), AtFirst::Full, FLOORS, FLOORS_ANSWERED);
-    let talk = talk.expect(&rt, "memory for seven frames");
-    check!(&rt;
-        talk.seen.end == Served::Ended,
-        "the session goes on to the end of the input"
-    );
-    check!(&rt;
-        talk.seen.is_whole,
-        "a floor may pass a number with fault 10, which then has fault 9"
-    );
-    check!(&rt; talk.asked == 3, "requests 1 to 3 are new once each");
-    check!(&rt; talk.retried == 2, "2 and 3 are asked again once");
-    check!(&rt; talk.floor == 2, "the last question has the session's floor");
-}
-
-/// Two inserts in version 1, of which a number gives up all below it; and the first one again.
-const VERSION_1: &[&[u8]] = &[
-    &INSERT,
-    b"\x00\x00\x00\x0f\x01\x01\x00\x00\x00\x00\x00\x00\x00\x02\x01a\x00\x01y",
-    &INSERT,
-];
-
-const VERSION_1_ANSWERED: &[&[u8]] = &[
-    b"\x00\x00\x00\x0b\x01\xff\x00\x00\x00\x00\x00\x00\x00\x01\x0b",
-    b"\x00\x00\x00\x0b\x01\xff\x00\x00\x00\x00\x00\x00\x00\x02\x0b",
-    b"\x00\x00\x00\x0b\x01\xff\x00\x00\x00\x00\x00\x00\x00\x01\x09",
-];
-
-#[test]
-fn version_1_goes_on_behind_a_fault(rt: HostRuntime) {
-    let talk = late(rt.alloc(), AtFirst::NoAnswer, VERSION_1, VERSION_1_ANSWERED);
-    let talk = talk.expect(&rt, "memory for three frames");
-    check!(&rt; talk.seen.is_whole, "the next number is asked, and gives up the one before");
-    check!(&rt; talk.asked == 2 && talk.retried == 0, "each once");
-    check!(&rt; talk.floor == 1, "the first is given up");
-}
-
-/// An input, how it ends, its answers, and how many requests are asked.
-const INPUTS: &[(&[u8], Served, &[u8], usize)] = &[
-    (b"", Served::Ended, b"", 0),
-    (b"\x00\x00\x00", Served::Truncated, b"", 0),
-    (&INSERT, Served::Ended, &ADDED, 1),
-    (&INSERT_2, Served::Ended, &ADDED, 1),
-];
-
-#[test]
-fn a_session_ends_with_its_input(rt: HostRuntime) {
-    for (input, end, output, asked) in INPUTS {
-        let talk = mapped(rt.alloc(), &[input], &[output]).expect(&rt, "memory for a frame");
-        let seen = Seen {
-            end: *end,
-            is_whole: true,
-            ..talk.seen
-        };
-        let wanted = Talk {
-            seen,
-            asked: *asked,
-        };
-        assert!(rt; talk == wanted, "{} bytes", input.len());
-    }
-}
-
-/// A frame, and one byte of it that is changed.
-#[derive(Clone, Copy)]
-struct Change<'a> {
-    frame: &'a [u8],
-    place: usize,
-    byte: u8,
-}
-
-/// `mapped` for the frame with the byte changed.
-fn changed(alloc: Global, change: Change<'_>, output: &[u8]) -> Option<Talk> {
-    let frame = change.frame;
-    let head = frame.get(..change.place).unwrap_or(&[]);
-    let tail = frame.get(change.place.saturating_add(1)..).unwrap_or(&[]);
-    mapped(alloc, &[head, &[change.byte], tail], &[output])
-}
-
-/// A frame with one byte of it changed, by its place, and the fault, by its number and its code.
-const FAULTY: &[(&[u8], (usize, u8), FaultCode, (u8, u8))] = &[
-    (&RETRIEVE, (4, 9), FaultCode::BadVersion, (0, 2)),
-    (&RETRIEVE, (5, 4), FaultCode::BadOperation, (0, 3)),
-    (&RETRIEVE, (14, 0), FaultCode::BadKey, (2, 4)),
-    (&INSERT, (17, 2), FaultCode::BadValue, (1, 5)),
-    (&INSERT, (17, 0), FaultCode::Trailing, (1, 6)),
-    (&INSERT_2, (21, 1), FaultCode::BadFloor, (1, 12)),
-];
-
-#[test]
-fn a_faulty_frame_ends_the_session_with_its_fault(rt: HostRuntime) {
-    for (frame, (place, byte), why, (number, code)) in FAULTY {
-        let change = Change {
-            frame,
-            place: *place,
-            byte: *byte,
-        };
-        let talk = changed(rt.alloc(), change, &fault(*number, *code));
-        let talk = talk.expect(&rt, "memory for a frame");
-        let seen = Seen {
-            end: Served::Malformed(*why),
-            is_whole: true,
-            ..talk.seen
-        };
-        assert!(rt; talk == Talk { seen, asked: 0 }, "fault {code}");
-    }
-}
-
-#[test]
-fn a_bad_length_ends_a_session(rt: HostRuntime) {
-    let length = [0u8, 0, 0x11, 0x15];
-    let talk = mapped(rt.alloc(), &[&length], &[&fault(0, 1)]).expect(&rt, "memory for a frame");
-    let malformed = Served::Malformed(FaultCode::BadLength);
-    check!(&rt;
-        talk.seen.end == malformed,
-        "the length alone ends the session"
-    );
-    check!(&rt; talk.seen.is_whole, "fault 1 is written with number 0");
-    check!(&rt; talk.asked == 0, "nothing is asked");
-}
-
-#[test]
-fn a_session_keeps_its_version(rt: HostRuntime) {
-    let talk = mapped(rt.alloc(), &[&INSERT_2, &INSERT], &[&ADDED, &fault(0, 2)]);
-    let talk = talk.expect(&rt, "memory for two frames");
-    let malformed = Served::Malformed(FaultCode::BadVersion);
-    check!(&rt;
-        talk.seen.end == malformed,
-        "the frame of the other version ends the session"
-    );
-    check!(&rt; talk.seen.is_whole, "fault 2 is behind the first answer");
-    check!(&rt; talk.asked == 1, "only the first is asked");
-}
-
-/// A session over the first `cut` bytes of the three frames.
-pub fn three_frames(alloc: Global, cut: usize, conditions: Conditions) -> Option<Seen> {
-    let frames = three(alloc).ok()?;
-    let asker = MapAsker::new(alloc);
-    let input = frames.input.get(..cut).unwrap_or(&[]);
-    let (seen, asker) = limited(alloc, (input, &frames.output), conditions, asker);
-    drop(asker);
-    drop(frames);
-    Some(seen)
-}
-
-#[test]
-fn frames_cut_anywhere_are_answered_as_far_as_they_are_whole(rt: HostRuntime) {
-    for cut in 0..=THREE_FRAMES {
-        let (end, answered) = match cut {
-            0 => (Served::Ended, 0),
-            19 => (Served::Ended, 15),
-            35 => (Served::Ended, 36),
-            54 => (Served::Ended, 51),
-            1..19 => (Served::Truncated, 0),
-            20..35 => (Served::Truncated, 15),
-            _ => (Served::Truncated, 36),
-        };
-        let seen = three_frames(rt.alloc(), cut, AMPLE).expect(&rt, "memory for three frames");
-        let wanted = Seen {
-            end,
-            answered: Some(answered),
-            ..seen
-        };
-        assert!(rt; seen == wanted, "{cut} bytes");
-    }
-}
-
-/// The three frames are read by at most `calls` calls of at most `step` bytes.
-fn reading(step: usize, calls: u64, turns: u64) -> Conditions {
-    Conditions {
-        reads: Limits { step, calls },
-        writes: FREE,
-        size: ReadSize::Small,
-        turns,
-    }
-}
-
-#[test]
-fn a_reader_that_fails_ends_the_session(rt: HostRuntime) {
-    // Each call reads 7 bytes, and the ninth finds the end.
-    for (calls, end, answered) in [
-        (0, Served::Read, 0),
-        (1, Served::Read, 0),
-        (2, Served::Read, 0),
-        (3, Served::Read, 15),
-        (4, Served::Read, 15),
-        (5, Served::Read, 36),
-        (6, Served::Read, 36),
-        (7, Served::Read, 36),
-        (8, Served::Read, 51),
-        (9, Served::Ended, 51),
-    ] {
-        let seen = three_frames(rt.alloc(), THREE_FRAMES, reading(7, calls, 20));
-        let seen = seen.expect(&rt, "memory for three frames");
-        let wanted = Seen {
-            end,
-            answered: Some(answered),
-            reads: calls,
-            ..seen
-        };
-        assert!(rt; seen == wanted, "{calls} reads");
-    }
-}
-
-/// The answers to the three frames are written by at most `calls` calls of at most `step` bytes.
-fn writing(step: usize, calls: u64) -> Conditions {
-    Conditions {
-        reads: FREE,
-        writes: Limits { step, calls },
-        size: ReadSize::Small,
-        turns: 20,
-    }
-}
-
-#[test]
-fn a_writer_that_fails_ends_the_session(rt: HostRuntime) {
-    // Each call takes 7 of the 51 bytes, which are written together.
-    for (calls, end, written) in [
-        (0, Served::Write, 0),
-        (1, Served::Write, 7),
-        (2, Served::Write, 14),
-        (3, Served::Write, 21),
-        (4, Served::Write, 28),
-        (5, Served::Write, 35),
-        (6, Served::Write, 42),
-        (7, Served::Write, 49),
-        (8, Served::Ended, 51),
-    ] {
-        let seen = three_frames(rt.alloc(), THREE_FRAMES, writing(7, calls));
-        let seen = seen.expect(&rt, "memory for three frames");
-        let wanted = Seen {
-            end,
-            answered: Some(written),
-            ..seen
-        };
-        assert!(rt; seen == wanted, "{calls} writes");
-    }
-}
-
-#[test]
-fn a_writer_that_takes_no_byte_ends_the_session(rt: HostRuntime) {
-    let seen = three_frames(rt.alloc(), THREE_FRAMES, writing(0, 20));
-    let seen = seen.expect(&rt, "memory for three frames");
-    check!(&rt;
-        seen.end == Served::Write,
-        "a write of no byte is a failed one"
-    );
-    check!(&rt; seen.answered == Some(0), "nothing was written");
-}
-
-#[test]
-fn a_session_makes_at_most_its_turns_of_reads(rt: HostRuntime) {
-    for (step, turns, end, answered, reads) in [
-        (30, 1, Served::TurnsSpent, 15, 1),
-        (54, 1, Served::TurnsSpent, 51, 1),
-        (54, 2, Served::Ended, 51, 2),
-        (1, 60, Served::Ended, 51, 55),
-        (1, 40, Served::TurnsSpent, 36, 40),
-        (54, 0, Served::TurnsSpent, 0, 0),
-    ] {
-        let seen = three_frames(rt.alloc(), THREE_FRAMES, reading(step, 100, turns));
-        let seen = seen.expect(&rt, "memory for three frames");
-        let wanted = Seen {
-            end,
-            answered: Some(answered),
-            reads,
-            ..seen
-        };
-        assert!(rt; seen == wanted, "{turns} turns of {step} bytes");
-    }
-}
-
-pub fn insert(alloc: Global) -> Result<Request, AllocError> {
-    Request::insert(alloc, b"a", b"x")
-}
-
-pub fn is_added(answer: Result<Answer, CallFault>) -> bool {
-    let is_added = matches!(
-        &answer,
-        Ok(Answer::Reply {
-            number: 1,
-            reply: Reply::Added
-        })
-    );
-    drop(answer);
-    is_added
-}
-
-/// Call number 1 in this version, with floor 0.
-pub fn calls<R: Read, W: Write>(
-    alloc: Global,
-    (reader, writer): (&mut R, &mut W),
-    answers: &mut Answers,
-    version: u8,
-    request: &Request,
-    turns: u64,
-) -> Result<Answer, CallFault> {
-    if request.check().is_err() {
-        return Err(CallFault::Ended);
-    }
-    if version == 1 {
-        call(alloc, reader, writer, answers, 1, request, turns)
-    } else {
-        call_2(alloc, reader, writer, answers, 1, 0, request, turns)
-    }
-}
-
-/// A call over memory: whether it is answered Added, and whether it writes exactly its frame.
-#[derive(Clone, Copy)]
-struct Called {
-    is_added: bool,
-    is_frame: bool,
-}
-
-/// A call in this version, whose answer is ready to be read.
-fn one_call(alloc: Global, answers: &mut Answers, version: u8, frame: &[u8]) -> Option<Called> {
-    let request = insert(alloc).ok()?;
-    let mut written: Vec<u8> = Vec::new(alloc);
-    let mut reader = ADDED.as_slice();
-    let devices = (&mut reader, &mut written);
-    let answer = calls(alloc, devices, answers, version, &request, 10);
-    drop(request);
-    let is_frame = written.as_slice() == frame;
-    let is_added = is_added(answer);
-    Some(Called { is_added, is_frame })
-}
-
-/// A call in version 1 and then one in version 2, with one stream of answers.
-fn both_called(alloc: Global) -> Option<(Called, Called)> {
-    let mut answers = Answers::new(alloc);
-    let first = one_call(alloc, &mut answers, 1, &INSERT);
-    let second = one_call(alloc, &mut answers, 2, &INSERT_2);
-    drop(answers);
-    first.zip(second)
-}
-
-#[test]
-fn a_call_writes_its_frame_and_reads_its_answer(rt: HostRuntime) {
-    let (first, second) = both_called(rt.alloc()).expect(&rt, "memory for two calls");
-    check!(&rt; first.is_frame, "`call` writes the frame of version 1");
-    check!(&rt; first.is_added, "`call` gives the answer");
-    check!(&rt; second.is_frame, "`call_2` writes the frame of version 2");
-    check!(&rt; second.is_added, "`call_2` gives the answer");
-}
-
-/// The devices of a call, which move at most 7 bytes a read or write: the reads and the writes that
-/// do not fail, and the reads that the call may make.
-#[derive(Clone, Copy)]
-struct Line {
-    reads: u64,
-    writes: u64,
-    turns: u64,
-}
-
-/// Why a call gave no answer, if it gave none, and the reads that it made.
-#[derive(Clone, Copy, PartialEq, Eq)]
-struct Unanswered {
-    why: Option<CallFault>,
-    reads: u64,
-}
-
-/// A call in this version over this input.
-fn called_over(alloc: Global, version: u8, input: &[u8], line: Line) -> Option<Unanswered> {
-    let request = insert(alloc).ok()?;
-    let limits = |calls| Limits { step: 7, calls };
-    let mut reader = Limited::new(input, limits(line.reads));
-    let mut writer = Limited::new(Vec::new(alloc), limits(line.writes));
-    let mut answers = Answers::new(alloc);
-    let devices = (&mut reader, &mut writer);
-    let answer = calls(alloc, devices, &mut answers, version, &request, line.turns);
-    drop(request);
-    drop(answers);
-    let why = answer.err();
-    Some(Unanswered {
-        why,
-        reads: reader.calls,
-    })
-}
-
-/// A request takes three writes in version 1 and four in version 2, and an answer three reads.
-const VERSIONS: [(u8, u64); 2] = [(1, 3), (2, 4)];
-
-// Number 1 was added; and the same in a version that answers do not have.
-const WHOLE: &[u8] = b"\x00\x00\x00\x0b\x01\x81\x00\x00\x00\x00\x00\x00\x00\x01\x01";
-
-const WRONG: &[u8] = b"\x00\x00\x00\x0b\x02\x81\x00\x00\x00\x00\x00\x00\x00\x01\x01";
-
-/// Calls without an answer: the input, the reads that do not fail, how many writes less than those
-/// that the request takes do not fail, the reads that the call may make, why it has no answer, and
-/// the reads that it makes.
-const UNANSWERED: [(&[u8], u64, u64, u64, CallFault, u64); 8] = [
-    (b"", 9, 0, 9, CallFault::Ended, 1),
-    (WHOLE, 1, 0, 9, CallFault::Read, 1),
-    (WHOLE, 0, 0, 9, CallFault::Read, 0),
-    (WHOLE, 9, 1, 9, CallFault::Write, 0),
-    (WHOLE, 9, 4, 9, CallFault::Write, 0),
-    (WHOLE, 9, 0, 2, CallFault::TurnsSpent, 2),
-    (WHOLE, 9, 0, 0, CallFault::TurnsSpent, 0),
-    (
-        WRONG,
-        9,
-        0,
-        9,
-        CallFault::Malformed(FaultCode::BadVersion),
-        3,
-    ),
-];
-
-/// Whether a call in this version goes as the row says. Its request takes `needed` writes.
-fn is_unanswered(
-    alloc: Global,
-    (version, needed): (u8, u64),
-    (input, reads, less, turns, why, made): (&[u8], u64, u64, u64, CallFault, u64),
-) -> bool {
-    let line = Line {
-        reads,
-        writes: needed.saturating_sub(less),
-        turns,
-    };
-    let wanted = Unanswered {
-        why: Some(why),
-        reads: made,
-    };
-    called_over(alloc, version, input, line) == Some(wanted)
-}
-
-#[test]
-fn a_call_says_why_it_has_no_answer(rt: HostRuntime) {
-    for (row, seen) in UNANSWERED.iter().enumerate() {
-        for version in VERSIONS {
-            assert!(rt; is_unanswered(rt.alloc(), version, *seen), "row {row}");
-        }
-    }
-}
-
-#[test]
-fn a_call_makes_no_read_more_than_it_needs(rt: HostRuntime) {
-    for (version, writes) in VERSIONS {
-        let line = Line {
-            reads: 9,
-            writes,
-            turns: 3,
-        };
-        let seen = called_over(rt.alloc(), version, &ADDED, line);
-        let answered = Unanswered {
-            why: None,
-            reads: 3,
-        };
-        assert!(rt; seen == Some(answered), "version {version}");
-    }
+fn calls_are_answered(rt: HostRuntime) -> Result<(), Fail> {
+    follow::<Serving>(rt.alloc(), CALLS)
 }
 
 #[test]
 fn laws_are_called() {
-    laws::replies_are_of_their_kind::<MapAsker>();
-    laws::one_output::<MapAsker>();
+    laws::replies_are_of_their_kind::<Scripted>();
+    laws::one_output::<Scripted>();
 }

@@ -1,40 +1,71 @@
 //! A session without an asker: what is done with each request, and what is kept. This is all that
-//! `chord_session` offers.
+//! `chord_session` offers. The rules are those of docs/protocol.md.
+//!
+//! `come 2/1 b B`: request 2, with floor 1, inserts b; if it is to be asked or asked about again,
+//! it gets a reply frame of three bytes that begins with B, or none where the line has none. What
+//! comes is what is done with it, and the first byte of the frame that is kept under its number.
+//! `newest`: the value of the request added last. Behind `; ` stand the floor, the last number, and
+//! the bytes of the kept frames.
 
-use crate::checks::check;
+use chord_app_text::{GrammarFault, LineFault, Words};
 use chord_map::{Bytes, Request};
 use chord_session::{Move, Session};
-use chord_wire::{FaultCode, WireRequest};
+use chord_testkit::{Fresh, Subject, Text, follow, two_numbers};
+use chord_wire::WireRequest;
 use std::alloc::Global;
+use std::str::from_utf8;
+use std::test::Fail;
 
-/// An insert of this value that comes, and the first byte of the reply frame that its number has
-/// then, if it has one. If it is to be asked, it gets it now.
-#[derive(Clone, Copy)]
-struct Coming {
-    number: u64,
-    floor: u64,
-    value: u8,
-    reply: Option<u8>,
+#[derive(Drop)]
+struct Alone {
+    alloc: Global,
+    session: Session,
 }
 
-/// What is done with a request, and what is there then.
-#[derive(Clone, Copy, PartialEq, Eq)]
-struct Seen {
-    does: Move,
-    /// The first byte of the reply frame of the request's number.
-    frame: Option<u8>,
-    floor: u64,
-    last: u64,
-    bytes: u64,
+impl Fresh for Alone {
+    fn fresh(alloc: Global) -> Alone {
+        Alone {
+            alloc,
+            session: Session::new(alloc),
+        }
+    }
 }
 
-/// What is done with the request, which is added if it is to be asked.
-fn accepted(alloc: Global, session: &mut Session, coming: Coming) -> Option<Move> {
-    let Coming { number, floor, .. } = coming;
-    let request = Request::insert(alloc, b"a", &[coming.value]).ok()?;
+impl Subject for Alone {
+    fn act(&mut self, words: &mut Words) -> Result<Text, LineFault> {
+        let session = &mut self.session;
+        match words.word()? {
+            "come" => come(self.alloc, session, words),
+            "newest" if session.floor() != session.last() => {
+                Ok(letters(session.newest().value()))
+            }
+            _ => Err(GrammarFault::NoLine.into()),
+        }
+    }
+
+    fn show(&self) -> Text {
+        let floor = self.session.floor();
+        let last = self.session.last();
+        let bytes = self.session.bytes();
+        Text::of(format_args!("floor {floor}, last {last}, kept {bytes}"))
+    }
+}
+
+fn letters(bytes: &[u8]) -> Text {
+    Text::of(from_utf8(bytes).unwrap_or("?"))
+}
+
+fn come(alloc: Global, session: &mut Session, words: &mut Words) -> Result<Text, LineFault> {
+    let (number, floor) = two_numbers(words, "/")?;
+    let value = words.word()?.as_bytes();
+    let reply = if words.has_more() {
+        words.word()?.as_bytes()
+    } else {
+        b"".as_slice()
+    };
+    let request = Request::insert(alloc, b"a", value)?;
     if request.check().is_err() || number <= floor || number - floor > 16 {
-        drop(request);
-        return None;
+        return Err(GrammarFault::NoLine.into());
     }
     let wire = WireRequest {
         version: 2,
@@ -44,115 +75,62 @@ fn accepted(alloc: Global, session: &mut Session, coming: Coming) -> Option<Move
     };
     let does = session.accept(&wire);
     match does {
-        Move::Ask => session.add(wire.request).ok()?,
+        Move::Ask => session.add(wire.request)?,
         _ => drop(wire),
     }
-    Some(does)
+    if let (Move::Ask | Move::Retry, [first]) = (does, reply) {
+        keep(alloc, session, number, *first)?;
+    }
+    let frame = first_of_frame(session, number);
+    let frame = frame.as_str();
+    Ok(Text::of(format_args!("{does:?}{frame}")))
 }
 
 /// Keeps a reply frame of three bytes.
-fn keep(alloc: Global, session: &mut Session, number: u64, first: u8) -> Option<()> {
-    let frame = Bytes::from_slice(alloc, &[first, 0, 0]).ok()?;
+fn keep(alloc: Global, session: &mut Session, number: u64, first: u8) -> Result<(), LineFault> {
+    let frame = Bytes::from_slice(alloc, &[first, 0, 0])?;
     if number <= session.floor() || session.last() < number {
         drop(frame);
-        return None;
+        return Err(GrammarFault::NoLine.into());
     }
     session.keep(number, frame);
-    Some(())
+    Ok(())
 }
 
-fn first_of_frame(session: &Session, number: u64) -> Option<u8> {
+fn first_of_frame(session: &Session, number: u64) -> Text {
+    let text = Text::of(" ");
     if number <= session.floor() {
-        return None;
+        return Text::of("");
     }
-    session.frame_of(number)?.as_slice().first().copied()
+    match session.frame_of(number).map(|frame| frame.as_slice()) {
+        Some([first, ..]) => text.and_str(letters(&[*first]).as_str(), 8),
+        _ => Text::of(""),
+    }
 }
 
-/// What is seen of the session as the request comes.
-fn meet(alloc: Global, session: &mut Session, coming: Coming) -> Option<Seen> {
-    let does = accepted(alloc, session, coming)?;
-    if let (Move::Ask | Move::Retry, Some(first)) = (does, coming.reply) {
-        keep(alloc, session, coming.number, first)?;
-    }
-    Some(Seen {
-        does,
-        frame: first_of_frame(session, coming.number),
-        floor: session.floor(),
-        last: session.last(),
-        bytes: session.bytes(),
-    })
-}
+const SCRIPTS: &str = "
+== each request has its move
+come 2/0 b > Refuse(BadNumber)
+come 1/0 a A > Ask A; floor 0, last 1, kept 3
+come 1/0 a > Again A
+come 1/0 x > Refuse(NumberReused) A
+come 2/0 b > Ask; floor 0, last 2, kept 3
+come 3/0 c C > Ask C; floor 0, last 3, kept 6
+# the floor of a retry drops what is kept at or below it
+come 2/1 b B > Retry B; floor 1, last 3, kept 6
+come 1/0 a > Refuse(BadNumber)
+come 4/3 d > Ask; floor 3, last 4, kept 0
+come 5/4 e E > Ask E; floor 4, last 5, kept 3
+come 4/3 d > Refuse(BadNumber)
 
-const BAD_NUMBER: Move = Move::Refuse(FaultCode::BadNumber);
-
-const REUSED: Move = Move::Refuse(FaultCode::NumberReused);
-
-/// Requests in the order in which they come: number and floor, value, the reply of that number, the
-/// move, and then floor, last number and bytes of the session. The rules are those of
-/// docs/protocol.md.
-const ROWS: [((u64, u64), u8, Option<u8>, Move, (u64, u64, u64)); 11] = [
-    ((2, 0), b'b', None, BAD_NUMBER, (0, 0, 0)),
-    ((1, 0), b'a', Some(b'A'), Move::Ask, (0, 1, 3)),
-    ((1, 0), b'a', Some(b'A'), Move::Again, (0, 1, 3)),
-    ((1, 0), b'x', Some(b'A'), REUSED, (0, 1, 3)),
-    ((2, 0), b'b', None, Move::Ask, (0, 2, 3)),
-    ((3, 0), b'c', Some(b'C'), Move::Ask, (0, 3, 6)),
-    ((2, 1), b'b', Some(b'B'), Move::Retry, (1, 3, 6)),
-    ((1, 0), b'a', None, BAD_NUMBER, (1, 3, 6)),
-    ((4, 3), b'd', None, Move::Ask, (3, 4, 0)),
-    ((5, 4), b'e', Some(b'E'), Move::Ask, (4, 5, 3)),
-    ((4, 3), b'd', None, BAD_NUMBER, (4, 5, 3)),
-];
+== the request added last is the newest
+come 1/0 a > Ask; floor 0, last 1, kept 0
+newest > a
+come 2/0 b > Ask; floor 0, last 2, kept 0
+newest > b
+";
 
 #[test]
-fn each_request_has_its_move(rt: HostRuntime) {
-    let mut session = Session::new(rt.alloc());
-    for ((number, floor), value, reply, does, (low, last, bytes)) in ROWS {
-        let coming = Coming {
-            number,
-            floor,
-            value,
-            reply,
-        };
-        let seen = meet(rt.alloc(), &mut session, coming);
-        let wanted = Seen {
-            does,
-            frame: reply,
-            floor: low,
-            last,
-            bytes,
-        };
-        assert!(rt; seen == Some(wanted), "request {number}, floor {floor}");
-    }
-    drop(session);
-}
-
-/// The values of the requests added last, once the first and once the second came.
-fn newest_values(alloc: Global) -> Option<[u8; 2]> {
-    let mut session = Session::new(alloc);
-    let first = newest_value(alloc, &mut session, 1, b'a');
-    let second = newest_value(alloc, &mut session, 2, b'b');
-    drop(session);
-    Some([first?, second?])
-}
-
-/// The value of the request added last, once this one came.
-fn newest_value(alloc: Global, session: &mut Session, number: u64, value: u8) -> Option<u8> {
-    let coming = Coming {
-        number,
-        floor: 0,
-        value,
-        reply: None,
-    };
-    accepted(alloc, session, coming)?;
-    if session.floor() == session.last() {
-        return None;
-    }
-    session.newest().value().first().copied()
-}
-
-#[test]
-fn the_request_added_last_is_the_newest(rt: HostRuntime) {
-    let newest = newest_values(rt.alloc()).expect(&rt, "memory for two requests");
-    check!(&rt; newest == [b'a', b'b']);
+fn requests_are_met_as_the_table_says(rt: HostRuntime) -> Result<(), Fail> {
+    follow::<Alone>(rt.alloc(), SCRIPTS)
 }

@@ -1,468 +1,109 @@
 //! What a receiver took and buffered, and what its parts make together.
 
-use super::CIRCLE;
-use super::parts::{FIRST, PartRow, SECOND, are_from_zero, part_of};
-use crate::checks::check;
-use chord_handover::{Gather, Part, Payload, Taken, Verdict};
-use std::alloc::Global;
-use std::process::Abort;
+use super::taking::Taking;
+use chord_testkit::follow;
+use std::test::Fail;
 
-/// What is done with the record of what was taken.
-#[derive(Clone, Copy)]
-pub enum Deed {
-    /// Judge a handover of node 0 of this number.
-    Judge(u64),
-    Reserve,
-    /// The next handover of this node was taken.
-    Mark(u64),
-    /// Put a part together with the buffered ones.
-    Gather(PartRow),
-    Buffer(PartRow),
-    /// Buffer the first 15 of 16 parts, each with 64 pairs.
-    BufferFifteen,
-    Forget,
-}
+pub const SCRIPTS: &str = "
+== numbers are taken in order
+# the second handover is early before the first was taken
+judge 0#2 > Early
+# the first handover is the next at first
+judge 0#1 > Next
+mark 0 > Marked; taken 1 0 0
+# a handover that was taken comes again
+judge 0#1 > Again
+# the second handover is the next once the first was taken
+judge 0#2 > Next
 
-/// What a part makes with the buffered ones.
-#[derive(Clone, Copy, PartialEq, Eq)]
-pub enum Made {
-    More,
-    Unfit,
-    /// The whole circle with this many pairs, from 0 on.
-    Whole(usize),
-    OtherPayload,
-}
+== two parts make it whole with all pairs
+# the second of two parts makes no payload alone
+! gather 0#1 2/2 64..65 > More
+# a part of the next handover is buffered
+buffer 0#1 2/2 64..65 > Buffered
+# a part makes no more with itself
+! gather 0#1 2/2 64..65 > More
+# a part that is buffered may be buffered again
+! buffer 0#1 2/2 64..65 > Buffered
+# the first part and the buffered second one make the payload, with all pairs in order
+gather 0#1 1/2 0..64 > Whole 65
+# the first part is buffered too
+buffer 0#1 1/2 0..64 > Buffered
+# the payload is the same, whichever part comes last
+gather 0#1 2/2 64..65 > Whole 65
 
-/// What a deed gives.
-#[derive(Clone, Copy, PartialEq, Eq)]
-pub enum Outcome {
-    Judged(Verdict),
-    Reserved,
-    Marked,
-    Made(Made),
-    Buffered,
-    /// The part is not of the next handover of its giver.
-    NotNext,
-    Forgotten,
-    Memory,
-}
+== a part of a handover that was taken is not next
+mark 0 > Marked; taken 1 0 0
+# a part of a handover that was taken is not of the next
+! gather 0#1 2/2 64..65 > NotNext
 
-/// The numbers of the last handovers that were taken from nodes 0, 1 and 2.
-#[derive(Clone, Copy, PartialEq, Eq)]
-pub struct Last {
-    pub of_0: u64,
-    pub of_1: u64,
-    pub of_2: u64,
-}
+== parts that do not fit make nothing
+# the first of two parts makes no payload alone
+! gather 0#1 1/2 0..64 > More
+buffer 0#1 1/2 0..64 > Buffered
+# a part of a handover with another count does not fit
+! gather 0#1 2/3 64..65 > Unfit
+# a second part whose pairs are not behind those of the first does not fit
+! gather 0#1 2/2 0..1 > Unfit
+# a last part of two without pairs does not fit
+! gather 0#1 2/2 64..64 > Unfit
+# an only part does not fit
+! gather 0#1 1/1 0..0 > Unfit
 
-/// What is done, and what must follow by this rule.
-#[derive(Clone, Copy)]
-pub struct Step {
-    pub rule: &'static str,
-    pub deed: Deed,
-    pub outcome: Outcome,
-    pub last: Last,
-}
+== a set of a payload has at most a thousand values
+# fifteen parts of 64 pairs under one key are buffered
+buffer 0#1 1/16 0..64 > Buffered
+buffer 0#1 2/16 64..128 > Buffered
+buffer 0#1 3/16 128..192 > Buffered
+buffer 0#1 4/16 192..256 > Buffered
+buffer 0#1 5/16 256..320 > Buffered
+buffer 0#1 6/16 320..384 > Buffered
+buffer 0#1 7/16 384..448 > Buffered
+buffer 0#1 8/16 448..512 > Buffered
+buffer 0#1 9/16 512..576 > Buffered
+buffer 0#1 10/16 576..640 > Buffered
+buffer 0#1 11/16 640..704 > Buffered
+buffer 0#1 12/16 704..768 > Buffered
+buffer 0#1 13/16 768..832 > Buffered
+buffer 0#1 14/16 832..896 > Buffered
+buffer 0#1 15/16 896..960 > Buffered
+# a set of a payload may have a thousand values
+gather 0#1 16/16 960..1000 > Whole 1000
+# a set of a payload has no more than a thousand values
+! gather 0#1 16/16 960..1001 > Unfit
 
-fn last_of(taken: &Taken) -> Last {
-    Last {
-        of_0: taken.last(0),
-        of_1: taken.last(1),
-        of_2: taken.last(2),
-    }
-}
+== parts are buffered until they are forgotten
+buffer 0#1 2/2 64..65 > Buffered
+gather 0#1 1/2 0..64 > Whole 65
+# buffered parts can be dropped
+forget > Forgotten
+# what was dropped is not there for the first part
+! gather 0#1 1/2 0..64 > More
+# an only part needs no buffered one
+gather 0#1 1/1 0..0 > Whole 0
 
-fn reserve(taken: &mut Taken) -> Outcome {
-    match taken.reserve() {
-        Ok(()) => Outcome::Reserved,
-        Err(_) => Outcome::Memory,
-    }
-}
+== what was taken is not buffered
+# parts of several givers are buffered
+buffer 0#1 2/2 64..65 > Buffered
+buffer 2#1 2/2 64..65 > Buffered
+mark 0 > Marked; taken 1 0 0
+# the buffered parts of a handover that was taken are dropped
+! gather 0#2 1/2 0..64 > More
+# the buffered parts of other givers stay
+gather 2#1 1/2 0..64 > Whole 65
+# handovers of several givers are taken
+mark 2 > Marked; taken 1 0 1
 
-fn mark(taken: &mut Taken, from: u64) -> Outcome {
-    if taken.reserve().is_err() {
-        return Outcome::Memory;
-    }
-    if taken.last(from) == u64::MAX {
-        return Outcome::NotNext;
-    }
-    taken.mark(from);
-    Outcome::Marked
-}
+== parts of no payload are unfit and need no memory
+buffer 0#1 1/2 0..64 > Buffered
+# parts with the same pairs are unfit, whether or not there is memory
+! gather 0#1 2/2 0..64 > Unfit
 
-fn made_of(payload: &Payload) -> Made {
-    let pairs = payload.pairs();
-    if payload.segment().span() == CIRCLE && are_from_zero(pairs) {
-        Made::Whole(pairs.len())
-    } else {
-        Made::OtherPayload
-    }
-}
-
-/// What the part makes with the buffered parts.
-pub fn gather(taken: &Taken, part: &Part) -> Outcome {
-    if taken.judge(part.from, part.number) != Verdict::Next {
-        return Outcome::NotNext;
-    }
-    let Ok(gathered) = taken.whole_with(part) else {
-        return Outcome::Memory;
-    };
-    let made = match &gathered {
-        Gather::More => Made::More,
-        Gather::Unfit => Made::Unfit,
-        Gather::Whole(payload) => made_of(payload),
-    };
-    drop(gathered);
-    Outcome::Made(made)
-}
-
-/// Buffers the part.
-pub fn buffer(taken: &mut Taken, part: &Part) -> Outcome {
-    if taken.judge(part.from, part.number) != Verdict::Next {
-        return Outcome::NotNext;
-    }
-    match taken.buffer(part) {
-        Ok(()) => Outcome::Buffered,
-        Err(_) => Outcome::Memory,
-    }
-}
-
-fn gather_row(rt: &impl Abort, alloc: Global, taken: &Taken, row: PartRow) -> Outcome {
-    let part = part_of(rt, alloc, row);
-    let outcome = gather(taken, &part);
-    drop(part);
-    outcome
-}
-
-fn buffer_row(rt: &impl Abort, alloc: Global, taken: &mut Taken, row: PartRow) -> Outcome {
-    let part = part_of(rt, alloc, row);
-    let outcome = buffer(taken, &part);
-    drop(part);
-    outcome
-}
-
-fn buffer_fifteen(rt: &impl Abort, alloc: Global, taken: &mut Taken) -> Outcome {
-    for place in 1..16u64 {
-        let row = PartRow {
-            place,
-            of: 16,
-            first: 64 * (place - 1),
-            ..FIRST
-        };
-        let outcome = buffer_row(rt, alloc, taken, row);
-        if outcome != Outcome::Buffered {
-            return outcome;
-        }
-    }
-    Outcome::Buffered
-}
-
-fn act(rt: &impl Abort, alloc: Global, taken: &mut Taken, deed: Deed) -> Outcome {
-    match deed {
-        Deed::Judge(number) => Outcome::Judged(taken.judge(0, number)),
-        Deed::Reserve => reserve(taken),
-        Deed::Mark(from) => mark(taken, from),
-        Deed::Gather(row) => gather_row(rt, alloc, taken, row),
-        Deed::Buffer(row) => buffer_row(rt, alloc, taken, row),
-        Deed::BufferFifteen => buffer_fifteen(rt, alloc, taken),
-        Deed::Forget => {
-            taken.forget_buffered();
-            Outcome::Forgotten
-        }
-    }
-}
-
-/// Does it, and again if memory was refused: nothing may be taken then.
-fn act_again(rt: &impl Abort, alloc: Global, taken: &mut Taken, deed: Deed) -> Outcome {
-    let before = last_of(taken);
-    let outcome = act(rt, alloc, taken, deed);
-    if outcome != Outcome::Memory {
-        return outcome;
-    }
-    let last = last_of(taken);
-    check!(rt; last == before, "what is refused memory takes nothing");
-    act(rt, alloc, taken, deed)
-}
-
-/// Does the steps in turn with a record of nothing.
-pub fn follow(rt: &impl Abort, alloc: Global, steps: &[Step]) {
-    let mut taken = Taken::new(alloc);
-    for step in steps {
-        let rule = step.rule;
-        let outcome = act_again(rt, alloc, &mut taken, step.deed);
-        check!(rt; outcome == step.outcome, rule);
-        let last = last_of(&taken);
-        check!(rt; last == step.last, rule);
-    }
-    drop(taken);
-}
-
-/// Nothing was taken.
-pub const NONE: Last = Last {
-    of_0: 0,
-    of_1: 0,
-    of_2: 0,
-};
-
-/// The first handover of node 0 was taken.
-const FIRST_OF_0: Last = Last { of_0: 1, ..NONE };
-
-/// Node 0's first handover is marked as taken.
-const MARK_FIRST: Step = Step {
-    rule: "the next handover of a node was taken",
-    deed: Deed::Mark(0),
-    outcome: Outcome::Marked,
-    last: FIRST_OF_0,
-};
-
-const IN_ORDER: &[Step] = &[
-    Step {
-        rule: "the second handover is early before the first was taken",
-        deed: Deed::Judge(2),
-        outcome: Outcome::Judged(Verdict::Early),
-        last: NONE,
-    },
-    Step {
-        rule: "the first handover is the next at first",
-        deed: Deed::Judge(1),
-        outcome: Outcome::Judged(Verdict::Next),
-        last: NONE,
-    },
-    MARK_FIRST,
-    Step {
-        rule: "a handover that was taken comes again",
-        deed: Deed::Judge(1),
-        outcome: Outcome::Judged(Verdict::Again),
-        last: FIRST_OF_0,
-    },
-    Step {
-        rule: "the second handover is the next once the first was taken",
-        deed: Deed::Judge(2),
-        outcome: Outcome::Judged(Verdict::Next),
-        last: FIRST_OF_0,
-    },
-];
+== reserving room takes nothing
+reserve > Reserved
+";
 
 #[test]
-fn numbers_are_taken_in_order(rt: HostRuntime) {
-    follow(&rt, rt.alloc(), IN_ORDER);
-}
-
-/// Gathers the second part before the first came.
-const SECOND_ALONE: Step = Step {
-    rule: "the second of two parts makes no payload alone",
-    deed: Deed::Gather(SECOND),
-    outcome: Outcome::Made(Made::More),
-    last: NONE,
-};
-
-const BUFFER_SECOND: Step = Step {
-    rule: "a part of the next handover is buffered",
-    deed: Deed::Buffer(SECOND),
-    outcome: Outcome::Buffered,
-    last: NONE,
-};
-
-/// Gathers the first part when the second is buffered.
-const FIRST_TOO: Step = Step {
-    rule: "the first part and the buffered second one make the payload, with all pairs in order",
-    deed: Deed::Gather(FIRST),
-    outcome: Outcome::Made(Made::Whole(65)),
-    last: NONE,
-};
-
-pub const WHOLE_IN_TURN: &[Step] = &[
-    SECOND_ALONE,
-    BUFFER_SECOND,
-    Step {
-        rule: "a part makes no more with itself",
-        ..SECOND_ALONE
-    },
-    Step {
-        rule: "a part that is buffered may be buffered again",
-        ..BUFFER_SECOND
-    },
-    FIRST_TOO,
-    Step {
-        rule: "the first part is buffered too",
-        deed: Deed::Buffer(FIRST),
-        ..BUFFER_SECOND
-    },
-    Step {
-        rule: "the payload is the same, whichever part comes last",
-        deed: Deed::Gather(SECOND),
-        ..FIRST_TOO
-    },
-];
-
-#[test]
-fn two_parts_make_it_whole_with_all_pairs(rt: HostRuntime) {
-    follow(&rt, rt.alloc(), WHOLE_IN_TURN);
-}
-
-const TOO_LATE: &[Step] = &[
-    MARK_FIRST,
-    Step {
-        rule: "a part of a handover that was taken is not of the next",
-        deed: Deed::Gather(SECOND),
-        outcome: Outcome::NotNext,
-        last: FIRST_OF_0,
-    },
-];
-
-#[test]
-fn a_part_of_a_handover_that_was_taken_is_not_next(rt: HostRuntime) {
-    follow(&rt, rt.alloc(), TOO_LATE);
-}
-
-/// A part that does not fit the first of two, which is buffered.
-const MISFIT: Step = Step {
-    rule: "a part of a handover with another count does not fit",
-    deed: Deed::Gather(PartRow { of: 3, ..SECOND }),
-    outcome: Outcome::Made(Made::Unfit),
-    last: NONE,
-};
-
-const MISFITS: &[Step] = &[
-    Step {
-        rule: "the first of two parts makes no payload alone",
-        deed: Deed::Gather(FIRST),
-        ..SECOND_ALONE
-    },
-    Step {
-        rule: "the first part is buffered",
-        deed: Deed::Buffer(FIRST),
-        ..BUFFER_SECOND
-    },
-    MISFIT,
-    Step {
-        rule: "a second part whose pairs are not behind those of the first does not fit",
-        deed: Deed::Gather(PartRow { first: 0, ..SECOND }),
-        ..MISFIT
-    },
-    Step {
-        rule: "a last part of two without pairs does not fit",
-        deed: Deed::Gather(PartRow { count: 0, ..SECOND }),
-        ..MISFIT
-    },
-    Step {
-        rule: "an only part does not fit",
-        deed: Deed::Gather(PartRow {
-            of: 1,
-            count: 0,
-            ..FIRST
-        }),
-        ..MISFIT
-    },
-];
-
-#[test]
-fn parts_that_do_not_fit_make_nothing(rt: HostRuntime) {
-    follow(&rt, rt.alloc(), MISFITS);
-}
-
-/// The last of 16 parts, with 40 pairs.
-const LAST: PartRow = PartRow {
-    place: 16,
-    of: 16,
-    first: 960,
-    count: 40,
-    ..FIRST
-};
-
-const A_THOUSAND: &[Step] = &[
-    Step {
-        rule: "fifteen parts of 64 pairs under one key are buffered",
-        deed: Deed::BufferFifteen,
-        outcome: Outcome::Buffered,
-        last: NONE,
-    },
-    Step {
-        rule: "a set of a payload may have a thousand values",
-        deed: Deed::Gather(LAST),
-        outcome: Outcome::Made(Made::Whole(1000)),
-        last: NONE,
-    },
-    Step {
-        rule: "a set of a payload has no more than a thousand values",
-        deed: Deed::Gather(PartRow { count: 41, ..LAST }),
-        ..MISFIT
-    },
-];
-
-#[test]
-fn a_set_of_a_payload_has_at_most_a_thousand_values(rt: HostRuntime) {
-    follow(&rt, rt.alloc(), A_THOUSAND);
-}
-
-const FORGETS: &[Step] = &[
-    BUFFER_SECOND,
-    FIRST_TOO,
-    Step {
-        rule: "buffered parts can be dropped",
-        deed: Deed::Forget,
-        outcome: Outcome::Forgotten,
-        last: NONE,
-    },
-    Step {
-        rule: "what was dropped is not there for the first part",
-        deed: Deed::Gather(FIRST),
-        ..SECOND_ALONE
-    },
-    Step {
-        rule: "an only part needs no buffered one",
-        deed: Deed::Gather(PartRow {
-            of: 1,
-            count: 0,
-            ..FIRST
-        }),
-        outcome: Outcome::Made(Made::Whole(0)),
-        last: NONE,
-    },
-];
-
-#[test]
-fn parts_are_buffered_until_they_are_forgotten(rt: HostRuntime) {
-    follow(&rt, rt.alloc(), FORGETS);
-}
-
-/// The parts of node 2's first handover.
-const FIRST_OF_2: PartRow = PartRow { from: 2, ..FIRST };
-
-const SECOND_OF_2: PartRow = PartRow { from: 2, ..SECOND };
-
-const MARKS: &[Step] = &[
-    BUFFER_SECOND,
-    Step {
-        rule: "parts of several givers are buffered",
-        deed: Deed::Buffer(SECOND_OF_2),
-        ..BUFFER_SECOND
-    },
-    MARK_FIRST,
-    Step {
-        rule: "the buffered parts of a handover that was taken are dropped",
-        deed: Deed::Gather(PartRow { number: 2, ..FIRST }),
-        outcome: Outcome::Made(Made::More),
-        last: FIRST_OF_0,
-    },
-    Step {
-        rule: "the buffered parts of other givers stay",
-        deed: Deed::Gather(FIRST_OF_2),
-        outcome: Outcome::Made(Made::Whole(65)),
-        last: FIRST_OF_0,
-    },
-    Step {
-        rule: "handovers of several givers are taken",
-        deed: Deed::Mark(2),
-        outcome: Outcome::Marked,
-        last: Last {
-            of_2: 1,
-            ..FIRST_OF_0
-        },
-    },
-];
-
-#[test]
-fn what_was_taken_is_not_buffered(rt: HostRuntime) {
-    follow(&rt, rt.alloc(), MARKS);
+fn what_is_taken_makes_payloads(rt: HostRuntime) -> Result<(), Fail> {
+    follow::<Taking>(rt.alloc(), SCRIPTS)
 }

@@ -1,437 +1,99 @@
-//! What a node does with calls. Each test is a script of calls about `abc`, sent by caller 0.
+//! What a node does with calls, and the pages in which its pairs are read.
 
-use super::{A, C, founder, newborn};
-use crate::checks::check;
-use chord_caller::Ask;
-use chord_ident::Id;
-use chord_links::{Links, Peer, SuccList};
-use chord_map::{Bytes, Done, Reply, Request};
-use chord_node::{Answered, Node, Phase};
-use chord_store::CappedStore;
-use std::alloc::{AllocError, Global};
-use std::process::Abort;
+use super::acting::Acting;
+use chord_testkit::follow;
+use std::test::Fail;
 
-const ME: Peer = Peer {
-    number: 1,
-    id: Id { number: C },
-};
+/// Calls about `abc`, sent by caller 0.
+pub const SCRIPTS: &str = "
+== a call acts once
+found 1 > 0 Staying; Staying (A A]
+# a call for a held key is executed, and its reply told
+ask 1 insert abc x > Told 0#1 added, executed 0#1 added; Staying (A A] pairs 1
+# a call that comes again gets the same reply, and is not executed
+ask 1 insert abc x > Told 0#1 added
 
-const OTHER: Peer = Peer {
-    number: 0,
-    id: Id { number: A },
-};
+== a full store adds nothing
+found 1 > 0 Staying; Staying (A A]
+ask 1 insert abc x > Told 0#1 added, executed 0#1 added; Staying (A A] pairs 1
+# a full store refuses a call that would add a pair
+ask 2 insert abc y > Full
+# a full store executes a call that adds no pair
+ask 3 insert abc x > Told 0#3 present, executed 0#3 present
 
-#[derive(Clone, Copy, PartialEq, Eq)]
-enum Asked {
-    /// Insert this value under `abc`.
-    Insert(&'static [u8]),
-    /// Retrieve `abc`.
-    Retrieve,
-}
+== values are told and seen calls dropped
+found 1 > 0 Staying; Staying (A A]
+ask 1 insert abc x > Told 0#1 added, executed 0#1 added; Staying (A A] pairs 1
+# a retrieve is answered with the values
+ask 2 floor 1 retrieve abc > Told 0#2 values 1 78, executed 0#2 values 1 78
+# a call at its caller's floor is dropped
+ask 1 insert abc x > Dropped
 
-#[derive(Clone, Copy, PartialEq, Eq)]
-struct Call {
-    number: u64,
-    floor: u64,
-    hops: u8,
-    asked: Asked,
-}
+== a newborn node drops a call
+# a newborn node stays, and has the number of its links
+node > 1 Staying
+# a node that holds nothing and knows no other drops a call
+ask 1 insert abc x > Dropped
 
-/// A reply, without its values.
-#[derive(Clone, Copy, PartialEq, Eq)]
-enum Said {
-    Added,
-    Present,
-    SetFull,
-    /// The value x alone.
-    OnlyX,
-    OtherValues,
-    Removed,
-    Absent,
-}
+== a call is passed on: the key is behind its first entry
+newborn 1 1@C 0@A > 1 Staying
+# the links are set
+list > list 0@A 1@C
+# a call for another's key goes on to the first entry, with one hop less
+ask 1 insert abc x > Forward 0: 0#1 hops 254
+# a call for another's key is dropped if no hops are left
+ask 1 hops 0 insert abc x > Dropped
 
-/// A reply to the call of this caller and number.
-#[derive(Clone, Copy, PartialEq, Eq)]
-struct Told {
-    caller: u64,
-    number: u64,
-    said: Said,
-}
+== a call goes to its last hop: the key is between the node and its first entry
+newborn 1 0@A 1@C > 0 Staying
+list > list 1@C 0@A
+# a call for a key up to the first entry goes there, with one hop less
+ask 1 insert abc x > Forward 1: 0#1 hops 254
+# its last hop too needs one
+ask 1 hops 0 insert abc x > Dropped
+";
 
-#[derive(Clone, Copy, PartialEq, Eq)]
-enum Answer {
-    Told(Told),
-    /// The call of this number goes on to a node.
-    Forward { to: u64, number: u64, hops: u8 },
-    Dropped,
-    Full,
-}
+/// The pairs of node 0, at A, and what is read of them from an identifier on. `i:i=1` is the pair
+/// of `i` with 1, at the identifier of `i`.
+pub const PAGES: &str = "
+== pages are in order of identifier
+found 10 > 0 Staying; Staying (A A]
+# a node that holds the circle adds a pair
+ask 1 floor 0 hops 0 insert c 6 > Told 0#1 added, executed 0#1 added; Staying (A A] pairs 1
+ask 2 floor 1 hops 0 insert g 5 > Told 0#2 added, executed 0#2 added; Staying (A A] pairs 2
+ask 3 floor 2 hops 0 insert g 4 > Told 0#3 added, executed 0#3 added; Staying (A A] pairs 3
+ask 4 floor 3 hops 0 insert d 3 > Told 0#4 added, executed 0#4 added; Staying (A A] pairs 4
+ask 5 floor 4 hops 0 insert h 2 > Told 0#5 added, executed 0#5 added; Staying (A A] pairs 5
+ask 6 floor 5 hops 0 insert i 1 > Told 0#6 added, executed 0#6 added; Staying (A A] pairs 6
+# a page of two pairs, in the order of their identifiers
+page 0 2 > page i:i=1 h:h=2 next h
+# a page begins at its identifier
+page h 1 > page h:h=2 next h
+# a page ends at the end of the segment, though it could have more pairs
+page 27d5482eebd075de44389774fce28c6a 2 > page d:d=3 next A
+# all pairs of an identifier are in one page
+page 40000000000000000000000000000001 1 > page g:g=4 g:g=5 next g
+# the last page ends at the greatest identifier, though the segment goes on
+page g 1000 > page g:g=4 g:g=5 c:c=6
+# a page may have no pairs
+page ffffffffffffffffffffffffffffffff 1 > page
 
-/// What a node does with a call: what it answers, and the call that it records as executed.
-#[derive(Clone, Copy, PartialEq, Eq)]
-struct Seen {
-    answer: Answer,
-    executed: Option<Told>,
-}
+== a node tells no pairs of others
+# a node that holds nothing tells no page
+page g 1 > no page
 
-/// A call, and what the node must do with it by this rule.
-#[derive(Clone, Copy)]
-struct Step {
-    rule: &'static str,
-    call: Call,
-    seen: Seen,
-}
-
-/// How a call comes to a node.
-#[derive(Clone, Copy, PartialEq, Eq)]
-enum Way {
-    /// By `on_ask`, which records what it executes.
-    Lent,
-    /// By `take_ask`, which takes the call over and records nothing.
-    TakenOver,
-}
-
-fn said_in(reply: &Reply) -> Said {
-    match reply {
-        Reply::Added => Said::Added,
-        Reply::Present => Said::Present,
-        Reply::SetFull => Said::SetFull,
-        Reply::Values(values) => match values.as_slice() {
-            [value] if value.as_slice() == b"x".as_slice() => Said::OnlyX,
-            _ => Said::OtherValues,
-        },
-        Reply::Removed => Said::Removed,
-        Reply::Absent => Said::Absent,
-    }
-}
-
-fn answer_of(answered: Answered) -> Answer {
-    let answer = match &answered {
-        Answered::Told(told) => Answer::Told(Told {
-            caller: told.caller,
-            number: told.number,
-            said: said_in(&told.reply),
-        }),
-        Answered::Forward(to, passed) => Answer::Forward {
-            to: *to,
-            number: passed.number,
-            hops: passed.hops,
-        },
-        Answered::Dropped => Answer::Dropped,
-        Answered::Full => Answer::Full,
-    };
-    drop(answered);
-    answer
-}
-
-fn executed_of(done: Option<Done>) -> Option<Told> {
-    let done = done?;
-    let told = Told {
-        caller: done.caller,
-        number: done.number,
-        said: said_in(&done.reply),
-    };
-    drop(done);
-    Some(told)
-}
-
-fn request_of(alloc: Global, asked: Asked) -> Result<Request, AllocError> {
-    match asked {
-        Asked::Insert(value) => Request::insert(alloc, b"abc", value),
-        Asked::Retrieve => Ok(Request::Retrieve {
-            key: Bytes::from_slice(alloc, b"abc")?,
-        }),
-    }
-}
-
-fn ask_of(rt: &impl Abort, alloc: Global, call: Call) -> Ask {
-    check!(rt; call.floor < call.number, "a call is above its floor");
-    check!(rt; call.number - call.floor <= 16, "and at most 16 above it");
-    Ask {
-        caller: 0,
-        number: call.number,
-        floor: call.floor,
-        request: request_of(alloc, call.asked).expect(rt, "memory for a request"),
-        hops: call.hops,
-    }
-}
-
-fn lend(rt: &impl Abort, node: &mut Node<CappedStore>, ask: Ask) -> Seen {
-    let (answered, done) = node.on_ask(&ask).expect(rt, "memory for a call");
-    drop(ask);
-    let executed = executed_of(done);
-    Seen {
-        answer: answer_of(answered),
-        executed,
-    }
-}
-
-fn hand_over(rt: &impl Abort, node: &mut Node<CappedStore>, ask: Ask) -> Answer {
-    let id = Id::of_bytes(ask.request.key());
-    answer_of(node.take_ask(id, ask).expect(rt, "memory for a call"))
-}
-
-/// What the node does with the call.
-fn send(
-    rt: &impl Abort,
-    alloc: Global,
-    node: &mut Node<CappedStore>,
-    way: Way,
-    call: Call,
-) -> Seen {
-    let ask = ask_of(rt, alloc, call);
-    match way {
-        Way::Lent => lend(rt, node, ask),
-        Way::TakenOver => Seen {
-            answer: hand_over(rt, node, ask),
-            executed: None,
-        },
-    }
-}
-
-/// Sends the calls of a script to the node in turn.
-fn follow(rt: &impl Abort, alloc: Global, mut node: Node<CappedStore>, way: Way, steps: &[Step]) {
-    for step in steps {
-        let seen = send(rt, alloc, &mut node, way, step.call);
-        let wanted = match way {
-            Way::Lent => step.seen,
-            Way::TakenOver => Seen {
-                executed: None,
-                ..step.seen
-            },
-        };
-        let rule = step.rule;
-        check!(rt; seen == wanted, rule);
-    }
-    drop(node);
-}
-
-/// A node that holds nothing, and lists another one and then itself.
-fn newborn_before(alloc: Global, me: Peer, other: Peer) -> Node<CappedStore> {
-    let alone = Links::alone(me, 3);
-    let mut node = Node::newborn(alloc, alone, CappedStore::new(alloc, 1));
-    let mut links = alone;
-    links.set_list(SuccList::behind_successor(me, 3, other, alone.list()));
-    node.set_links(links);
-    node
-}
-
-/// Node 1, at C, with node 0 in its list: the key of the calls is behind its first entry.
-fn neighbour(alloc: Global) -> Node<CappedStore> {
-    newborn_before(alloc, ME, OTHER)
-}
-
-/// Insert x, as call 1, with the most hops.
-const INSERT_X: Call = Call {
-    number: 1,
-    floor: 0,
-    hops: 255,
-    asked: Asked::Insert(b"x"),
-};
-
-/// Insert y, as call 2.
-const INSERT_Y: Call = Call {
-    number: 2,
-    asked: Asked::Insert(b"y"),
-    ..INSERT_X
-};
-
-const ADDED: Told = Told {
-    caller: 0,
-    number: 1,
-    said: Said::Added,
-};
-
-const ADDED_FIRST: Step = Step {
-    rule: "a call for a held key is executed, and its reply told",
-    call: INSERT_X,
-    seen: Seen {
-        answer: Answer::Told(ADDED),
-        executed: Some(ADDED),
-    },
-};
-
-const ACTS_ONCE: &[Step] = &[
-    ADDED_FIRST,
-    Step {
-        rule: "a call that comes again gets the same reply, and is not executed",
-        call: INSERT_X,
-        seen: Seen {
-            answer: Answer::Told(ADDED),
-            executed: None,
-        },
-    },
-];
+== a pair is placed by its key
+# its identifier begins its key's SHA-1
+placed g 4 > g:g=4
+";
 
 #[test]
-fn a_call_acts_once(rt: HostRuntime) {
-    let alloc = rt.alloc();
-    follow(&rt, alloc, founder(&rt, alloc, 1), Way::Lent, ACTS_ONCE);
-}
-
-const PRESENT: Told = Told {
-    caller: 0,
-    number: 3,
-    said: Said::Present,
-};
-
-const FILLS_UP: &[Step] = &[
-    ADDED_FIRST,
-    Step {
-        rule: "a full store refuses a call that would add a pair",
-        call: INSERT_Y,
-        seen: Seen {
-            answer: Answer::Full,
-            executed: None,
-        },
-    },
-    Step {
-        rule: "a full store executes a call that adds no pair",
-        call: Call {
-            number: 3,
-            ..INSERT_X
-        },
-        seen: Seen {
-            answer: Answer::Told(PRESENT),
-            executed: Some(PRESENT),
-        },
-    },
-];
-
-#[test]
-fn a_full_store_adds_nothing(rt: HostRuntime) {
-    let alloc = rt.alloc();
-    follow(&rt, alloc, founder(&rt, alloc, 1), Way::Lent, FILLS_UP);
-}
-
-const VALUES: Told = Told {
-    caller: 0,
-    number: 2,
-    said: Said::OnlyX,
-};
-
-const TAKES_REPLIES: &[Step] = &[
-    ADDED_FIRST,
-    Step {
-        rule: "a retrieve is answered with the values",
-        call: Call {
-            number: 2,
-            floor: 1,
-            asked: Asked::Retrieve,
-            ..INSERT_X
-        },
-        seen: Seen {
-            answer: Answer::Told(VALUES),
-            executed: Some(VALUES),
-        },
-    },
-    Step {
-        rule: "a call at its caller's floor is dropped",
-        call: INSERT_X,
-        seen: DROPPED,
-    },
-];
-
-const DROPPED: Seen = Seen {
-    answer: Answer::Dropped,
-    executed: None,
-};
-
-#[test]
-fn values_are_told_and_seen_calls_dropped(rt: HostRuntime) {
-    let alloc = rt.alloc();
-    follow(&rt, alloc, founder(&rt, alloc, 1), Way::Lent, TAKES_REPLIES);
-}
-
-const LOST: &[Step] = &[Step {
-    rule: "a node that holds nothing and knows no other drops a call",
-    call: INSERT_X,
-    seen: DROPPED,
-}];
-
-#[test]
-fn a_newborn_node_drops_a_call(rt: HostRuntime) {
-    let node = newborn(rt.alloc(), 1);
-    check!(&rt; node.phase() == Phase::Staying, "a newborn node stays");
-    check!(&rt; node.number() == 1, "a node has the number of its links");
-    follow(&rt, rt.alloc(), node, Way::Lent, LOST);
-}
-
-/// The call goes on to node 0.
-const GOES_ON: Step = Step {
-    rule: "a call for another's key goes on to the first entry, with one hop less",
-    call: INSERT_X,
-    seen: Seen {
-        answer: Answer::Forward {
-            to: 0,
-            number: 1,
-            hops: 254,
-        },
-        executed: None,
-    },
-};
-
-const NO_HOPS: Step = Step {
-    rule: "a call for another's key is dropped if no hops are left",
-    call: Call {
-        hops: 0,
-        ..INSERT_X
-    },
-    seen: DROPPED,
-};
-
-const PASSED_ON: &[Step] = &[GOES_ON, NO_HOPS];
-
-#[test]
-fn a_call_is_passed_on(rt: HostRuntime) {
-    let node = neighbour(rt.alloc());
-    check!(&rt; node.links().first() == OTHER, "the links are set");
-    follow(&rt, rt.alloc(), node, Way::Lent, PASSED_ON);
-}
-
-const LAST_HOP: &[Step] = &[
-    Step {
-        rule: "a call for a key up to the first entry goes there, with one hop less",
-        seen: Seen {
-            answer: Answer::Forward {
-                to: 1,
-                number: 1,
-                hops: 254,
-            },
-            executed: None,
-        },
-        ..GOES_ON
-    },
-    Step {
-        rule: "its last hop too needs one",
-        ..NO_HOPS
-    },
-];
-
-/// The node at A lists C and itself, and the key of the call is between the two.
-#[test]
-fn a_call_goes_to_its_last_hop(rt: HostRuntime) {
-    let node = newborn_before(rt.alloc(), OTHER, ME);
-    check!(&rt;
-        node.links().list().entries() == [ME, OTHER].as_slice(),
-        "its list is C and A"
-    );
-    follow(&rt, rt.alloc(), node, Way::Lent, LAST_HOP);
-    let node = newborn_before(rt.alloc(), OTHER, ME);
-    follow(&rt, rt.alloc(), node, Way::TakenOver, LAST_HOP);
+fn calls_are_answered_and_pairs_read(rt: HostRuntime) -> Result<(), Fail> {
+    follow::<Acting<true>>(rt.alloc(), SCRIPTS)?;
+    follow::<Acting<true>>(rt.alloc(), PAGES)
 }
 
 #[test]
-fn a_call_that_is_taken_over_is_answered_as_any_other(rt: HostRuntime) {
-    let alloc = rt.alloc();
-    for script in [ACTS_ONCE, FILLS_UP, TAKES_REPLIES] {
-        follow(&rt, alloc, founder(&rt, alloc, 1), Way::TakenOver, script);
-    }
-}
-
-#[test]
-fn a_call_that_is_taken_over_goes_on_if_its_key_is_anothers(rt: HostRuntime) {
-    let alloc = rt.alloc();
-    follow(&rt, alloc, neighbour(alloc), Way::TakenOver, PASSED_ON);
-    follow(&rt, alloc, newborn(alloc, 1), Way::TakenOver, LOST);
+fn calls_that_are_taken_over_are_answered_as_any_other(rt: HostRuntime) -> Result<(), Fail> {
+    follow::<Acting<false>>(rt.alloc(), SCRIPTS)
 }

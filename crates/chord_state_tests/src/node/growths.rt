@@ -2,46 +2,20 @@
 //! was refused memory. With ample memory nothing is refused; the tests are also run with each
 //! growth refused in turn.
 
-use super::handovers::{CUT_AND_MERGE, DECLINED, GIVES_ALL, GIVES_HALF, RESENDS};
-use super::parts::{MISFITS, TAKES_X};
-use super::scripts::{PUT_X, Step, follow_founder, follow_newborn};
-
-const PUTS_X: &[Step] = &[Step {
-    rule: "a call that was refused memory is executed when it comes again",
-    ..PUT_X
-}];
+use super::acting::Acting;
+use super::asks::{PAGES, SCRIPTS};
+use super::handovers;
+use chord_testkit::follow;
+use std::test::Fail;
 
 #[test]
-fn a_refused_call_is_not_executed(rt: HostRuntime) {
-    follow_founder(&rt, rt.alloc(), 1, &[PUTS_X]);
+fn a_refused_call_is_answered_when_it_comes_again(rt: HostRuntime) -> Result<(), Fail> {
+    follow::<Acting<true>>(rt.alloc(), SCRIPTS)?;
+    follow::<Acting<true>>(rt.alloc(), PAGES)?;
+    follow::<Acting<false>>(rt.alloc(), SCRIPTS)
 }
 
 #[test]
-fn a_refused_cut_and_a_refused_merge_change_nothing(rt: HostRuntime) {
-    follow_founder(&rt, rt.alloc(), 1, &[CUT_AND_MERGE]);
-}
-
-#[test]
-fn a_refused_give_keeps_the_segment(rt: HostRuntime) {
-    follow_founder(&rt, rt.alloc(), 1, &[GIVES_ALL]);
-}
-
-#[test]
-fn a_part_is_sent_again_after_a_refused_growth(rt: HostRuntime) {
-    follow_founder(&rt, rt.alloc(), 1, &[GIVES_HALF, RESENDS]);
-}
-
-#[test]
-fn a_refused_handover_is_not_held(rt: HostRuntime) {
-    follow_newborn(&rt, rt.alloc(), 1, TAKES_X);
-}
-
-#[test]
-fn a_refused_part_is_not_buffered(rt: HostRuntime) {
-    follow_newborn(&rt, rt.alloc(), 1, MISFITS);
-}
-
-#[test]
-fn a_refused_return_keeps_the_item(rt: HostRuntime) {
-    follow_founder(&rt, rt.alloc(), 1, &[GIVES_HALF, DECLINED]);
+fn a_refused_handover_changes_nothing(rt: HostRuntime) -> Result<(), Fail> {
+    follow::<Acting<true>>(rt.alloc(), handovers::SCRIPTS)
 }

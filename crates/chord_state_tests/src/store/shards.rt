@@ -1,7 +1,7 @@
 //! Spans between any two keys, in shards that were halved early, against a list.
 ghost use Rattle.std.specs.Prelude.{◌<◌};
 
-use super::{drop_what_was_copied, fill_a_set, move_a_span};
+use super::{DROPS_WHAT_WAS_COPIED, FILLS_A_SET, MOVES_A_SPAN, follow_with};
 use crate::checks::check;
 use chord_ident::{Id, Span};
 use chord_map::{Bytes, Pair};
@@ -219,17 +219,20 @@ fn shards_drop_each_span(rt: HostRuntime) -> Result<(), Fail> {
 }
 
 #[test]
-fn small_shards_do_what_others_do(rt: HostRuntime) {
+fn small_shards_do_what_others_do(rt: HostRuntime) -> Result<(), Fail> {
     let alloc = rt.alloc();
-    fill_a_set(&rt, alloc, TreeStore::with_shards(alloc, 1));
-    move_a_span(&rt, alloc, TreeStore::with_shards(alloc, 1));
-    drop_what_was_copied(&rt, alloc, TreeStore::with_shards(alloc, 1));
+    follow_with(alloc, TreeStore::with_shards(alloc, 1), FILLS_A_SET)?;
+    follow_with(alloc, TreeStore::with_shards(alloc, 1), MOVES_A_SPAN)?;
+    follow_with(
+        alloc,
+        TreeStore::with_shards(alloc, 1),
+        DROPS_WHAT_WAS_COPIED,
+    )
 }
 
 #[test]
 fn a_tree_store_goes_into_a_box(rt: HostRuntime) -> Result<(), Fail> {
     let alloc = rt.alloc();
     let store: Box<dyn EntryStore + Send> = Box::new(alloc, TreeStore::with_shards(alloc, 1))?;
-    move_a_span(&rt, alloc, store);
-    Ok(())
+    follow_with(alloc, store, MOVES_A_SPAN)
 }

@@ -1,32 +1,30 @@
 //! HTTP and TLS at the port of Redis's protocol: what a page makes a browser write acts on nothing.
+//!
+//! - `foreign GET / HTTP/1.1|`: behind three good commands comes this, in two reads, wherever these
+//!   are cut: how the connection ends, what it writes, and how many requests it asks.
+//! - `hello 1.2`: the same for a ClientHello of TLS. `hello-from 124 1.2`: its bytes from the 124th
+//!   on, alone.
+//! - `split 17 PING|`: these bytes in two reads, of which the first has 17.
 
-use super::askers::Scripted;
-use super::sessions::{ANSWERS, COMMANDS, NO_TROUBLE, OneLine};
-use crate::checks::check;
-use chord_resp_serve::{CommandProtocol, ServerInfo};
-use chord_serve::{ReadSize, Served, drive};
-use std::alloc::{AllocError, Global};
+use super::talking::with_answers;
+use crate::askers::{NO_TROUBLE, Scripted, server};
+use crate::escapes::escaped;
+use crate::options::differs;
+use chord_app_text::{GrammarFault, LineFault, Words};
+use chord_resp_serve::CommandProtocol;
+use chord_serve::{ReadSize, drive};
+use chord_testkit::{Text, name_of};
+use std::alloc::Global;
 use std::io::Read;
 
-/// The methods of HTTP, each in upper, lower and both cases.
-const METHODS: [&[u8]; 27] = [
-    b"GET", b"get", b"gEt", b"HEAD", b"head", b"HeAd", b"POST", b"post", b"pOST", b"PUT", b"put",
-    b"PuT", b"DELETE", b"delete", b"DeLETE", b"CONNECT", b"connect", b"cONNECT", b"OPTIONS",
-    b"options", b"OPTIOnS", b"TRACE", b"trace", b"TraCE", b"PATCH", b"patch", b"pATCh",
-];
+/// Two commands on a set, of which the first is an array and the second a line, and PING.
+const COMMANDS: &[u8] = b"*3\r\n$4\r\nSADD\r\n$1\r\nk\r\n$1\r\nv\r\nSMEMBERS k\r\nPING\r\n";
 
-/// What a browser writes behind the method of a page's `fetch`, up to the body, which the page
-/// chose.
-const REQUEST: &[u8] =
-    b" / HTTP/1.1\r\nHost: 127.0.0.1:6379\r\nContent-Length: 19\r\n\r\nSADD svc:web evil\r\n";
-
-/// A command in a line of its own, as it stands in the tickets below.
-const TICKET: &[u8] = b"\nSADD svc:web evil\n";
-
-/// The ClientHello of OpenSSL 3.0.19 for TLS 1.2, with a session whose ticket is TICKET. Its session
-/// was stored by `s_client -tls1_2 -sess_out` from a server of ours, its ticket was exchanged in
-/// that file, and `s_client -tls1_2 -sess_in` wrote these bytes to a port that listed them. The
-/// options `-cipher`, `-sigalgs` and `-groups` named one each, for a short text.
+/// The ClientHello of OpenSSL 3.0.19 for TLS 1.2, with a session whose ticket is a command in a
+/// line of its own. Its session was stored by `s_client -tls1_2 -sess_out` from a server of ours,
+/// its ticket was exchanged in that file, and `s_client -tls1_2 -sess_in` wrote these bytes to a
+/// port that listed them. The options `-cipher`, `-sigalgs` and `-groups` named one each, for a
+/// short text.
 const HELLO_1_2: [&[u8]; 8] = [
     b"\x16\x03\x01\x00\x9a\x01\x00\x00\x96\x03\x03\xed\x12\xaa{\xb5\xa4\x87\x17\xab\x96\x17",
     b"1K\xb1Jm\xdb\x83\x14\xd4H\xcd\x8fA\xa0@%h\xc3[l< ",
@@ -55,24 +53,43 @@ const HELLO_1_3: [&[u8]; 13] = [
     b"!{`\xedZ\xd3\xa0\x00\xebx\xc5\x01[",
 ];
 
-/// How a connection ended, or that it goes on, how many requests it asked, and whether it wrote the answers
-/// to the good commands and nothing else.
-#[derive(Clone, Copy, PartialEq, Eq)]
-struct Seen {
-    end: Served,
-    asked: usize,
-    is_answered: bool,
+pub fn foreign_deed(alloc: Global, word: &str, words: &mut Words) -> Result<Text, LineFault> {
+    match word {
+        "foreign" => behind_commands(alloc, &escaped(alloc, words)?),
+        "hello" => behind_commands(alloc, &hello(alloc, words)?),
+        "hello-from" => {
+            let place = words.number()? as usize;
+            let bytes = hello(alloc, words)?;
+            Ok(by_pieces(alloc, bytes.get(place..).unwrap_or(&[]), b""))
+        }
+        "split" => {
+            let len = words.number()? as usize;
+            let bytes = escaped(alloc, words)?;
+            let (first, more) = bytes.split_at(len.min(bytes.len()));
+            Ok(by_pieces(alloc, first, more))
+        }
+        _ => Err(GrammarFault::NoLine.into()),
+    }
+}
+
+fn hello(alloc: Global, words: &mut Words) -> Result<Vec<u8>, LineFault> {
+    let parts = match words.word()? {
+        "1.2" => HELLO_1_2.as_slice(),
+        "1.3" => &HELLO_1_3,
+        _ => return Err(GrammarFault::NoLine.into()),
+    };
+    let mut bytes = Vec::new(alloc);
+    for part in parts {
+        bytes.extend_from_slice(part)?;
+    }
+    Ok(bytes)
 }
 
 /// What a connection does that takes these two pieces by one read each, of which the second may be
 /// empty.
-fn by_pieces(alloc: Global, first: &[u8], more: &[u8], answers: &[u8]) -> Seen {
-    let server = ServerInfo {
-        number: 7,
-        source: &OneLine,
-    };
+fn by_pieces(alloc: Global, first: &[u8], more: &[u8]) -> Text {
     let mut written = Vec::new(alloc);
-    let mut protocol = CommandProtocol::new(alloc, server, Scripted::new(alloc, NO_TROUBLE));
+    let mut protocol = CommandProtocol::new(alloc, server(), Scripted::new(alloc, NO_TROUBLE));
     let mut reader = first.chain(more);
     let turns = if more.is_empty() { 1 } else { 2 };
     let small = ReadSize::Small;
@@ -87,89 +104,22 @@ fn by_pieces(alloc: Global, first: &[u8], more: &[u8], answers: &[u8]) -> Seen {
     let asker = protocol.into_asker();
     let asked = asker.requests.len();
     drop(asker);
-    let is_answered = written.as_slice() == answers;
-    drop(written);
-    Seen {
-        end,
-        asked,
-        is_answered,
-    }
+    let text = with_answers(name_of(&end), &written);
+    let text = text.as_str();
+    Text::of(format_args!("{text}, asked {asked}"))
 }
 
-/// The good commands, and these parts behind them.
-fn behind_commands(alloc: Global, parts: &[&[u8]]) -> Result<Vec<u8>, AllocError> {
+/// What a connection does with the good commands and these bytes, wherever they are cut.
+fn behind_commands(alloc: Global, behind: &[u8]) -> Result<Text, LineFault> {
     let mut bytes = Vec::from_slice(alloc, COMMANDS)?;
-    for part in parts {
-        bytes.extend_from_slice(part)?;
-    }
-    Ok(bytes)
-}
-
-/// What was seen in place of the end at a foreign line, wherever the good commands and these parts
-/// are cut; none if it always was that.
-fn wrong_cut(alloc: Global, parts: &[&[u8]]) -> Option<usize> {
-    let ended = Seen {
-        end: Served::Foreign,
-        asked: 2,
-        is_answered: true,
-    };
-    let Ok(bytes) = behind_commands(alloc, parts) else {
-        return Some(0);
-    };
-    let mut wrong = None;
+    bytes.extend_from_slice(behind)?;
+    let mut all: Option<Text> = None;
     for cut in 1..=bytes.len() {
         let (first, more) = bytes.split_at(cut);
-        if by_pieces(alloc, first, more, ANSWERS) != ended {
-            wrong = wrong.or(Some(cut));
+        let came = by_pieces(alloc, first, more);
+        if let Some(other) = differs(&mut all, cut as u64, came) {
+            return Ok(other);
         }
     }
-    drop(bytes);
-    wrong
-}
-
-#[test]
-fn a_request_of_http_acts_on_nothing(rt: HostRuntime) {
-    for method in METHODS {
-        let wrong = wrong_cut(rt.alloc(), &[method, REQUEST]);
-        assert!(rt; wrong.is_none(), "{method:?}, cut at {wrong:?}");
-    }
-}
-
-#[test]
-fn the_head_of_a_request_acts_on_nothing(rt: HostRuntime) {
-    // Where the first line is a command, that is done, and the next line ends the connection.
-    let host = b"HOST: 127.0.0.1\r\n\r\nSADD svc:web evil\r\n".as_slice();
-    let wrong = wrong_cut(rt.alloc(), &[host]);
-    check!(&rt; wrong.is_none(), "a line that begins with host:");
-    let seen = by_pieces(rt.alloc(), b"SADD / HTTP/1.1\r\n", host, b":1\r\n");
-    let wanted = Seen {
-        end: Served::Foreign,
-        asked: 1,
-        is_answered: true,
-    };
-    check!(&rt; seen == wanted, "a command of the table whose last word is HTTP/1.1");
-}
-
-/// What is seen of a connection that takes the parts from this byte on.
-fn from_byte(alloc: Global, parts: &[&[u8]], byte: usize) -> Option<Seen> {
-    let bytes = behind_commands(alloc, parts).ok()?;
-    let rest = bytes.get(COMMANDS.len().saturating_add(byte)..);
-    let seen = rest.map(|rest| by_pieces(alloc, rest, b"", b":1\r\n"));
-    drop(bytes);
-    seen
-}
-
-#[test]
-fn a_client_hello_acts_on_nothing(rt: HostRuntime) {
-    let wrong = wrong_cut(rt.alloc(), &HELLO_1_2);
-    check!(&rt; wrong.is_none(), "TLS 1.2");
-    let wrong = wrong_cut(rt.alloc(), &HELLO_1_3);
-    check!(&rt; wrong.is_none(), "TLS 1.3");
-    // The bytes from the ticket on would act, so it is the bytes before it that end a connection.
-    for (hello, ticket) in [(HELLO_1_2.as_slice(), 124), (HELLO_1_3.as_slice(), 203)] {
-        let seen = from_byte(rt.alloc(), hello, ticket);
-        let acts = seen.is_some_and(|seen| seen.asked == 1 && seen.is_answered);
-        assert!(rt; acts, "from byte {ticket} on");
-    }
-    check!(&rt; TICKET.len() == 19, "the ticket's line is whole");
+    Ok(all.unwrap_or(Text::of("none")))
 }
