@@ -1,3 +1,4 @@
+pub mod Additions
 pub mod Coming
 pub mod Departures
 pub mod Gathering

@@ -1,6 +1,7 @@
 pub mod Closings
 pub mod Deeds
 pub mod Departures
+pub mod Journals
 pub mod Moments
 pub mod Parts
 pub mod Refused

@@ -8,6 +8,9 @@
 //! Who asks the ring is admitted by [`Ring::admit_caller`] or [`Ring::admit_client`], which give
 //! the core of a caller and its seat. [`Ring::post`] and [`Ring::hear`] send and wait, and
 //! [`Ring::carry`] does the nodes' events on the calling thread. `chord_live` has such callers.
+//!
+//! [`Ring::begin_journal`] begins a journal of all changes, and [`Ring::take_journal`] takes out
+//! what it has, to be written.
 #![tactic(auto)]
 
 mod board;
@@ -18,6 +21,7 @@ mod deed;
 mod departing;
 mod fault;
 mod handing_over;
+mod journaling;
 mod linking;
 mod looking;
 mod moment;
@@ -38,6 +42,7 @@ mod waiting;
 mod work;
 
 pub use carried::Carried;
+pub use chord_journal::JournalPiece;
 pub use chord_live_steps::{Keyed, Target, Tidied, deal, join_adjoining, tidy, trim};
 pub use chord_live_types::{
     CreateFault, JoinFault, LeaveFault, NewFault, NoSuchNode, OpenClientFault, OpenFault, Settings,

@@ -12,6 +12,7 @@ use crate::seated_node::SeatedNode;
 use crate::slot::{Inbox, Slot, SlotState};
 use chord_caller::{CallerCore, ClientCore};
 use chord_ident::Id;
+use chord_journal::JournalBuffer;
 use chord_links::{Links, Peer};
 use chord_live_steps::Numbers;
 use chord_live_types::{CreateFault, JoinFault, LeaveFault, OpenClientFault, OpenFault, Settings};
@@ -23,7 +24,7 @@ use chord_table::{CallerSeat, Naming, Shared};
 use std::alloc::{AllocError, Global};
 use std::marker::Model;
 use std::sync::atomic::{AtomicBool, AtomicU64, Ordering};
-use std::sync::{Condvar, Mutex, Wait};
+use std::sync::{Condvar, Mutex, OnceLock, Wait};
 
 /// Nodes, inboxes and their table. Contracts see the settings.
 #[derive(Drop)]
@@ -45,6 +46,8 @@ pub struct Ring<J: Naming, S: EntryStore> {
     /// Whether a node came, began to leave, retired, crashed or was rescued since the last rest.
     pub(crate) stirred: Mutex<bool>,
     pub(crate) stirring: Condvar,
+    /// Where there is a journal: what was not taken out of it. Locked behind any other.
+    pub(crate) journal: OnceLock<Mutex<JournalBuffer>>,
     ghost sized: { J.name.slots ≡ settings.slots },
     ghost within: { AreWithin settings },
     ghost counted: { vec_len slots ≡ J.name.slots },
@@ -140,8 +143,8 @@ impl<J: Naming, S: EntryStore> Ring<J, S> {
         }
     }
 
-    /// The phase of a node that acts; one that is rescued is leaving. None if there is no such node,
-    /// or if it crashed and is not rescued.
+    /// The phase of a node that acts; one that is rescued is leaving. None if there is no such
+    /// node, or if it crashed and is not rescued.
     pub fn phase_of(&self, rt: &impl Wait, number: u64) -> Option<Phase>
         ensures { J.name.slots ≤ number → result ≡ None }
     {

@@ -14,7 +14,7 @@ use chord_table::{Naming, Registrar, TableParts};
 use std::alloc::{AllocError, Global};
 use std::marker::Model;
 use std::sync::atomic::{AtomicBool, AtomicU64};
-use std::sync::{Condvar, Mutex};
+use std::sync::{Condvar, Mutex, OnceLock};
 
 /// A ring that has no name yet. Contracts see the name that it will get, and its settings.
 #[derive(Drop)]
@@ -82,6 +82,7 @@ impl RingParts {
             stopped: AtomicBool::new(false),
             stirred: Mutex::new(false),
             stirring: Condvar::new(),
+            journal: OnceLock::new(),
         })
     }
 }

@@ -1,6 +1,7 @@
 //! A node with its seat.
 ghost use Rattle.std.specs.Prelude.{◌≡◌, ◌≢◌, ◌↔◌, ◌≤◌, ◌<◌, ◌+◌, ◌++◌, [], ◌∷◌, Ok, Err, Contains, Some, None, false, true, length, slice_get, IsTrue, IsOk, IfOk, IfErr, IfSome, IfNone, OnOk, OnErr};
 ghost use Rattle.chord_handover.specs.Handover.{Part as PartOf};
+ghost use Rattle.chord_journal.specs.Journal.{JournalIs};
 ghost use Rattle.chord_links.specs.Fingers.{with_finger};
 ghost use Rattle.chord_live_steps.specs.Adjoining.{JoinIs};
 ghost use Rattle.chord_live_ring.specs.Deeds.{counted, no_counts};
@@ -11,7 +12,7 @@ ghost use Rattle.chord_live_ring.specs.Departures.{CrashFaultIs, RetireFaultIs};
 ghost use Rattle.chord_live_steps.specs.Departures.{number_of};
 ghost use Rattle.chord_live_steps.specs.declared.departure.Departure.TheVariants.{Crash, Retire};
 ghost use Rattle.chord_live_ring.specs.Sights.{HoldingIs, counts_after, kind_in, look_in, seated_look, shown_of};
-ghost use Rattle.chord_live_steps.specs.Dealt.{DealIs, IsFor};
+ghost use Rattle.chord_live_steps.specs.Dealt.{DealIs, IsFor, executed_for};
 ghost use Rattle.chord_live_steps.specs.Tidy.{TidyIs};
 ghost use Rattle.chord_model.specs.Node.{newborn, segment_with};
 ghost use Rattle.chord_model.specs.declared.message.Message.TheVariants.{Part as PartMessage};
@@ -26,6 +27,7 @@ use crate::deed::{Deed, MessageKind};
 use crate::fault::DepartFault;
 use crate::looking::{gives_to, holding_of, phase_seen, sight_of};
 use chord_ident::Id;
+use chord_journal::JournalBuffer;
 use chord_links::{Links, Peer};
 use chord_live_steps::{
     Departure, Keyed, Numbers, Target, Tidied, deal_by_id, is_for, join_adjoining, tidy, trim,
@@ -241,28 +243,44 @@ impl<J: Naming, S: EntryStore> SeatedNode<J, S> {
 
     /// Takes a message in, makes the node's call for it, sends the answer, and counts what the node
     /// did. A message is lost if it is not for the node, or if the node is out of memory.
-    pub fn answer(&mut self, table: &Shared<J>, keyed: Keyed<J>) -> Option<(Target, Keyed<J>)>
+    pub fn answer(
+        &mut self,
+        table: &Shared<J>,
+        keyed: Keyed<J>,
+        journal: &mut JournalBuffer,
+    ) -> Option<(Target, Keyed<J>)>
         ensures messages { self.new.messages ≡ self.old.messages ++ keyed.envelope ∷ [] }
         ensures crashed { self.new.crashed ≡ self.old.crashed }
         ensures some { IfSome result (λ sent. IsFor keyed.envelope self.old.node.number × DealIs keyed.envelope self.old.node (Ok (Some (sent.0, sent.1.envelope))) self.new.node) }
         ensures none { IfNone result (SendsNone keyed.envelope self.old.node self.new.node) }
+        ensures changed { IfSome result (λ sent.
+            JournalIs journal.old (executed_for keyed.envelope self.old.node) journal.new) }
+        ensures unchanged { IfNone result (JournalIs journal.old None journal.new) }
         ensures sent { IfSome result (λ sent. self.new.counts ≡ counts_after keyed.envelope (Some sent.1.envelope) self.old.node self.new.node self.old.counts) }
         ensures silent { IfNone result (self.new.counts ≡ counts_after keyed.envelope None self.old.node self.new.node self.old.counts) }
     {
         let came = MessageKind::of(keyed.envelope.message());
         let before = self.node.held_count();
-        let sent = self.deal_with(table, keyed);
+        let sent = self.deal_with(table, keyed, journal);
         let deed = Deed::of(came, kind_sent(&sent), before, self.node.held_count());
         count_if(&mut self.counts, deed);
         sent
     }
 
     /// Takes a message in, makes the node's call for it, and sends the answer.
-    fn deal_with(&mut self, table: &Shared<J>, keyed: Keyed<J>) -> Option<(Target, Keyed<J>)>
+    fn deal_with(
+        &mut self,
+        table: &Shared<J>,
+        keyed: Keyed<J>,
+        journal: &mut JournalBuffer,
+    ) -> Option<(Target, Keyed<J>)>
         ensures messages { self.new.messages ≡ self.old.messages ++ keyed.envelope ∷ [] }
         ensures crashed { self.new.crashed ≡ self.old.crashed }
         ensures some { IfSome result (λ sent. IsFor keyed.envelope self.old.node.number × DealIs keyed.envelope self.old.node (Ok (Some (sent.0, sent.1.envelope))) self.new.node) }
         ensures none { IfNone result (SendsNone keyed.envelope self.old.node self.new.node) }
+        ensures changed { IfSome result (λ sent.
+            JournalIs journal.old (executed_for keyed.envelope self.old.node) journal.new) }
+        ensures unchanged { IfNone result (JournalIs journal.old None journal.new) }
         ensures counts { self.new.counts ≡ self.old.counts }
     {
         let Keyed { envelope, id } = keyed;
@@ -274,7 +292,7 @@ impl<J: Naming, S: EntryStore> SeatedNode<J, S> {
             drop(message);
             return None;
         }
-        match deal_by_id(&mut self.node, id, message) {
+        match deal_by_id(&mut self.node, id, message, journal) {
             Ok(Some((target, sent))) => {
                 let envelope = seat.send(table, &self.node, sent);
                 Some((target, Keyed { envelope, id }))

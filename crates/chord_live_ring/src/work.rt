@@ -41,7 +41,7 @@ impl<J: Naming, S: EntryStore> Ring<J, S> {
         };
         match &mut *lock_soon(rt, &slot.state) {
             SlotState::Here(seated) => {
-                let sent = seated.answer(&self.table, keyed);
+                let sent = self.answer_of(rt, seated, keyed);
                 probe.pass(number);
                 sent
             }
@@ -141,8 +141,8 @@ impl<J: Naming, S: EntryStore> Ring<J, S> {
 
     /// Carries an envelope and its key's identifier from node to node, each event under that node's
     /// lock, until a node answers a caller. It begins at the node `via`, or at the next live one
-    /// where that has gone or crashed. It is lost once it goes round, as where the node crashed that
-    /// holds its key.
+    /// where that has gone or crashed. It is lost once it goes round, as where the node crashed
+    /// that holds its key.
     pub fn carry_keyed(&self, rt: &impl Wait, via: u64, keyed: Keyed<J>) -> Option<Carried<J>> {
         let mut to = self.live_from(via);
         let mut trail = Trail::new(to);

@@ -5,7 +5,7 @@ use Rattle.chord_handover.specs.Handover.{Part, ticket_of_part}
 use Rattle.chord_map.specs.declared.done.Done.{Done}
 use Rattle.chord_live_steps.specs.declared.target.Target.{Target}
 use Rattle.chord_live_steps.specs.declared.target.Target.TheVariants.{Node as ToNode, Caller as ToCaller}
-use Rattle.chord_node.specs.Asked.{AskIs}
+use Rattle.chord_node.specs.Asked.{AskIs, ask_done}
 use Rattle.chord_model.specs.Node.{Node, NodeStep}
 use Rattle.chord_node.specs.Received.{PartIs, GotIs, BackIs}
 use Rattle.chord_node.specs.declared.asks.answered.Answered.{Answered}
@@ -59,3 +59,8 @@ message_in (Some sent) = Some sent.1
 abbrev pub DealSteps : Message → Node → Result (Option (Target × Message)) AllocError → Node → Type 0
 DealSteps message old (Ok sent) new = (done : Option Done) × NodeStep old (Some message) new (message_in sent) done
 DealSteps message old (Err fault) new = Unit {0}
+
+-- the call that a node executes for a message, if any
+abbrev pub executed_for : Message → Node → Option Done
+executed_for (AskMessage ask) old = ask_done ask old
+executed_for message old = None

@@ -1,8 +1,9 @@
 //! What a node does with a message.
 ghost use Rattle.std.specs.Prelude.{◌≡◌, ◌↔◌, ℕ, IsTrue, IfOk, IfSome, OnErr};
-ghost use Rattle.chord_live_steps.specs.Dealt.{IsFor, DealIs, DealSteps, answer_to, confirmation_of};
+ghost use Rattle.chord_live_steps.specs.Dealt.{IsFor, DealIs, DealSteps, answer_to, confirmation_of, executed_for};
 ghost use Rattle.chord_live_steps.specs.Keys.{IsKeyId};
 ghost use Rattle.chord_model.specs.declared.message.Message.TheVariants.{Ask as AskMessage};
+ghost use Rattle.chord_node.specs.Asked.{Journals, ask_done};
 ghost use Rattle.chord_segment.specs.Segment.{id_of};
 
 use crate::keyed::id_in;
@@ -10,6 +11,7 @@ use crate::target::Target;
 use chord_caller::Ask;
 use chord_handover::{Part, Ticket};
 use chord_ident::Id;
+use chord_journal::JournalBuffer;
 use chord_node::{Answered, Message, Node, PartAnswer};
 use chord_store::EntryStore;
 use std::alloc::AllocError;
@@ -60,16 +62,18 @@ fn deal_ask<S: EntryStore>(
     node: &mut Node<S>,
     id: Id,
     ask: Ask,
+    journal: &mut JournalBuffer,
 ) -> Result<Option<(Target, Message)>, AllocError>
     requires { id.number ≡ id_of ask.request }
     ensures answer { DealIs (AskMessage ask) node.old result node.new }
     ensures step { DealSteps (AskMessage ask) node.old result node.new }
     ensures kept { OnErr result (node.new ≡ node.old) }
+    ensures journal { Journals result (ask_done ask node.old) journal.old journal.new }
     ensures key { IfOk result (λ sent. IfSome sent (λ both. IsKeyId id.number both.1)) }
 {
     let caller = ask.caller;
     let number = ask.number;
-    let answered = node.take_ask(id, ask)?;
+    let answered = node.take_ask(id, ask, journal)?;
     Ok(answer_of(caller, number, answered))
 }
 
@@ -80,16 +84,18 @@ pub fn deal_by_id<S: EntryStore>(
     node: &mut Node<S>,
     id: Id,
     message: Message,
+    journal: &mut JournalBuffer,
 ) -> Result<Option<(Target, Message)>, AllocError>
     requires own { IsFor message node.old.number }
     requires key { IsKeyId id.number message }
     ensures answer { DealIs message node.old result node.new }
     ensures step { DealSteps message node.old result node.new }
     ensures kept { OnErr result (node.new ≡ node.old) }
+    ensures journal { Journals result (executed_for message node.old) journal.old journal.new }
     ensures key { IfOk result (λ sent. IfSome sent (λ both. IsKeyId id.number both.1)) }
 {
     match message {
-        Message::Ask(ask) => deal_ask(node, id, ask),
+        Message::Ask(ask) => deal_ask(node, id, ask, journal),
         Message::Part(part) => {
             let given = node.on_give(&part)?;
             Ok(confirmation_of(&part, given))
@@ -111,12 +117,14 @@ pub fn deal_by_id<S: EntryStore>(
 pub fn deal<S: EntryStore>(
     node: &mut Node<S>,
     message: Message,
+    journal: &mut JournalBuffer,
 ) -> Result<Option<(Target, Message)>, AllocError>
     requires own { IsFor message node.old.number }
     ensures answer { DealIs message node.old result node.new }
     ensures step { DealSteps message node.old result node.new }
     ensures kept { OnErr result (node.new ≡ node.old) }
+    ensures journal { Journals result (executed_for message node.old) journal.old journal.new }
 {
     let id = id_in(&message);
-    deal_by_id(node, id, message)
+    deal_by_id(node, id, message, journal)
 }

@@ -23,6 +23,7 @@ mod dealing;
 mod endings;
 mod growths;
 mod handing;
+mod journaling;
 mod kinds;
 mod notes;
 mod numbering;

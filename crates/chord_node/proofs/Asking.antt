@@ -1,5 +1,7 @@
 -- A node after an Ask, from its segment and its store after it.
-use Rattle.std.proofs.Common.{◌≡◌, ◌≢◌, ◌-◌, ◌||◌, ◌==◌, ℕ, zero, suc, ◌<◌, Bool, true, false, cond, Option, None, Some, Result, Ok, Err, List, [], ◌∷◌, length, get_or, set, refl, sym, ◌∙◌, ap, subst, arith, leb}
+use Rattle.std.proofs.Common.{◌≡◌, ◌≢◌, ◌-◌, ◌||◌, ◌==◌, ℕ, zero, suc, ◌<◌, Bool, true, false, cond, Option, None, Some, Result, Ok, Err, List, [], ◌∷◌, length, get_or, set, refl, sym, ◌∙◌, ap, ap₂, subst, arith, leb}
+use Rattle.std.proofs.lemmas.List.{append-nil}
+use Rattle.chord_journal.specs.Journal.{Buffered, JournalIs}
 use Rattle.std.proofs.lemmas.Bool.{ltb-false, leb-true}
 use Rattle.std.specs.Prelude.{find, position, is_some, OnErr}
 use Rattle.std.specs.List.{position_or_len}
@@ -253,3 +255,25 @@ pub holds_here : {A : Type 0} (result : Result A AllocError) (x : ℕ) (view old
     → IsPlace x held i s → OnErr result (is_some (segment_with x old.held) ≡ true)
 holds_here result x view old e held i s v place =
     on_err result _ (ap (λ (n : Node). is_some (segment_with x n.held)) (sym e) ∙ ap (λ ks. is_some (segment_with x ks)) v ∙ ap is_some (with_here x held i s place))
+
+-- ---- the journal
+
+-- the call that the node executes is the one that the segment with the key executes
+pub done_here : (ask : Ask) (view old : Node) → view ≡ old → (held : List RoomySegment) (i : ℕ) (s : RoomySegment) (pairs : List Pair) (limit : ℕ)
+    → view.held ≡ segments_of held → IsPlace (id_of ask.request) held i s → s ≡ get_or held i s → pairs ≡ view.entries → limit ≡ view.limit
+    → past_done (past_at ask.caller ask.number s.segment) ask pairs limit ≡ ask_done ask old
+unfolding ask_done
+done_here ask view old e held i s pairs limit v place at same_pairs same_limit =
+    let found : segment_with (id_of ask.request) view.held ≡ Some (get_or held i s).segment = ap (segment_with (id_of ask.request)) v ∙ with_here (id_of ask.request) held i s place in
+    ap (λ (r : RoomySegment). past_done (past_at ask.caller ask.number r.segment) ask pairs limit) at
+    ∙ ap₂ (λ ps n. past_done (past_at ask.caller ask.number (get_or held i s).segment) ask ps n) same_pairs same_limit
+    ∙ sym (ap (λ o. done_in o ask view) found)
+    ∙ ap (ask_done ask) e
+
+pub done_elsewhere : (ask : Ask) (view old : Node) → view ≡ old → (held : List RoomySegment) → view.held ≡ segments_of held → find (has (id_of ask.request)) held ≡ None → None ≡ ask_done ask old
+unfolding ask_done
+done_elsewhere ask view old e held v none =
+    sym (ap (λ o. done_in o ask view) (ap (segment_with (id_of ask.request)) v ∙ find_none (id_of ask.request) held none)) ∙ ap (ask_done ask) e
+
+pub journal_same : (journal : Buffered) → JournalIs journal None journal
+journal_same journal = record { on = refl; taken = refl; bytes = sym (append-nil journal.bytes) }

@@ -9,6 +9,7 @@ use Rattle.chord_map.specs.Map.{reply_to, pairs_after}
 use Rattle.chord_store.specs.declared.outcome.StoreFault.{StoreFault}
 use Rattle.chord_store.specs.declared.outcome.StoreFault.TheVariants as fault
 use Rattle.chord_map.specs.declared.done.Done.{Done}
+use Rattle.chord_journal.specs.Journal.{Buffered, JournalIs}
 use Rattle.chord_segment.specs.Segment.{Segment, Past, id_of, past_at, append}
 use Rattle.chord_segment.specs.Segment.Past.{New, Kept, Seen}
 use Rattle.chord_caller.specs.declared.ask.Ask.{Ask}
@@ -82,6 +83,13 @@ AnswersIn ask recording segment pairs limit (Ok both) segment' pairs' =
     (both.0 ≡ past_answer past ask pairs limit) × (both.1 ≡ note_of recording did) × (segment' ≡ segment_after did ask segment) × (pairs' ≡ entries_after did ask pairs)
 AnswersIn ask recording segment pairs limit (Err fault) segment' pairs' =
     TakesMemory (past_answer (past_at ask.caller ask.number segment) ask pairs limit) × (segment' ≡ segment) × (pairs' ≡ pairs)
+
+-- the buffer of a journal grew by the command of this call, if one was executed; by nothing if
+-- memory ran out
+abbrev pub Journals : {A : Type 0}
+    → Result A AllocError → Option Done → Buffered → Buffered → Type 0
+Journals (Ok answered) did old new = JournalIs old did new
+Journals (Err fault) did old new = JournalIs old None new
 
 -- the call that an Ask executes at the segment, if any
 abbrev pub done_in : Option Segment → Ask → Node → Option Done

@@ -9,7 +9,7 @@ ghost use Rattle.chord_model.specs.declared.message.Message.TheVariants.{Got as 
 ghost use Rattle.chord_model.specs.declared.phase.Phase.TheVariants.{Gone};
 ghost use Rattle.chord_model.specs.Node.{newborn, founder, segment_with, NodeStep};
 ghost use Rattle.chord_node.specs.View.{span_of, segment_shown, item_view, pairs_of_item};
-ghost use Rattle.chord_node.specs.Asked.{AskIs, AskRecords, AskSteps, AskStepsRecording};
+ghost use Rattle.chord_node.specs.Asked.{AskIs, AskRecords, AskSteps, AskStepsRecording, Journals, ask_done};
 ghost use Rattle.chord_node.specs.Moves.{MoveSteps, SendSteps, CutAtIs, MergeIs, MayGive, GiveIs, ResendIs, LeaveIs, RetireIs};
 ghost use Rattle.chord_node.specs.Pages.{PairsFromIs};
 ghost use Rattle.chord_node.specs.Pieces.{CutAfterIs};
@@ -29,6 +29,7 @@ use crate::pages::{PairsPage, page_of, rest_from};
 use chord_caller::Ask;
 use chord_handover::{Declined, Got, Outbox, Part, Payload, Taken, Ticket, Verdict};
 use chord_ident::{Id, Span};
+use chord_journal::JournalBuffer;
 use chord_links::{Links, Peer};
 use chord_map::Done;
 use chord_model::Phase;
@@ -135,29 +136,41 @@ impl<S: EntryStore> Node<S> {
     /// Answers a call that it owns, with its key's identifier, as `on_ask`
     /// does. It computes no digest and copies no request, so it can run out
     /// of memory only if the node holds the key; then it drops the call.
-    pub fn take_ask(&mut self, id: Id, ask: Ask) -> Result<Answered, AllocError>
+    pub fn take_ask(
+        &mut self,
+        id: Id,
+        ask: Ask,
+        journal: &mut JournalBuffer,
+    ) -> Result<Answered, AllocError>
         requires { id.number ≡ id_of ask.request }
         ensures answer { AskIs ask self.old result self.new }
         ensures step { AskSteps ask self.old result self.new }
         ensures holds { OnErr result (is_some (segment_with (id_of ask.request) self.old.held) ≡ true) }
+        ensures journal { Journals result (ask_done ask self.old) journal.old journal.new }
     {
-        let (told, _) = self.answer_at(id, ask)?;
+        let (told, _) = self.answer_at(id, ask, journal)?;
         Ok(told)
     }
 
     /// Answers a call that it owns, with its key's identifier.
-    fn answer_at(&mut self, id: Id, ask: Ask) -> Result<(Answered, Option<Done>), AllocError>
+    fn answer_at(
+        &mut self,
+        id: Id,
+        ask: Ask,
+        journal: &mut JournalBuffer,
+    ) -> Result<(Answered, Option<Done>), AllocError>
         requires { id.number ≡ id_of ask.request }
         ensures answer { AskRecords ask false self.old result self.new }
         ensures step { AskStepsRecording ask self.old result self.new }
         ensures holds { OnErr result (is_some (segment_with (id_of ask.request) self.old.held) ≡ true) }
+        ensures journal { Journals result (ask_done ask self.old) journal.old journal.new }
     {
         let Some(place) = place_with(&self.held, id) else {
             return Ok((pass_taken(&self.links, ask, id), None));
         };
         let segment = &mut self.held[place];
         let store = self.store.as_mut().unwrap();
-        answer_taken(self.alloc, segment, store, id, ask)
+        answer_taken(self.alloc, segment, store, id, ask, journal)
     }
 
     /// The node's number.

@@ -1,5 +1,5 @@
 //! What holds of all streams. These functions have no code; their contracts are the laws.
-ghost use Rattle.std.specs.Prelude.{◌≡◌, ◌++◌, ◌∷◌, [], List, ℕ, map};
+ghost use Rattle.std.specs.Prelude.{◌≡◌, ◌++◌, ◌∷◌, ◌<◌, [], List, ℕ, length, map, take};
 ghost use Rattle.chord_resp.specs.Machine.{State, line_of, start, without_return, word_of, words_in};
 ghost use Rattle.chord_resp.specs.Reading.{Broken, after, reading, with_commands, with_more};
 ghost use Rattle.chord_resp.specs.Spelling.{AreInline, AreWords, IsLine, array, inline};
@@ -14,6 +14,12 @@ pub fn cuts_do_not_matter()
 /// The words of a command that is written as an array are read, whatever follows.
 pub fn arrays_are_read()
     ensures { (words : List (List ℕ)) (rest : List ℕ) → AreWords words → reading start (array words ++ rest) ≡ with_commands (map word_of words ∷ []) (reading start rest) }
+{}
+
+/// A command that is written as an array is none before its last byte.
+pub fn cut_arrays_are_no_commands()
+    ensures { (words : List (List ℕ)) (n : ℕ) → AreWords words → n < length (array words)
+        → (reading start (take n (array words))).commands ≡ [] }
 {}
 
 /// A line is read as its words, or refused as one of HTTP, whatever follows.

@@ -9,7 +9,7 @@ use std::test::Fail;
 /// What is wrong with a line.
 type Report = InlineText<512>;
 
-/// What comes of a line for which there is no memory before anything is done.
+/// The answer to a line for which there is no memory before anything is done.
 const NOT_READ: &str = "OutOfMemory";
 
 /// Does the scripts of a text, each with a fresh subject, and tells which went wrong: of the first
@@ -92,7 +92,7 @@ fn report(number: u64, rule: &str, line: &str, came: Text) -> Report {
     Report::of(format_args!("line {number}: {deed}\n  {rule}\n  due:  {due}\n  came: {came}"))
 }
 
-/// What comes of a line, if it is not what is due.
+/// The answer to a line, if it is not the one that is due.
 fn wrong_of<S: Subject>(subject: &mut S, line: &str) -> Option<Text> {
     let (deed, due) = parts_of(line);
     let before = subject.show();
@@ -148,7 +148,7 @@ fn act<S: Subject>(subject: &mut S, deed: &str) -> Text {
     }
 }
 
-/// What comes of a line that is not read to its end.
+/// The answer to a line that is not read to its end.
 fn unread(fault: LineFault) -> Text {
     match fault {
         LineFault::OutOfMemory => Text::of(NOT_READ),

@@ -4,11 +4,11 @@ use chord_app_text::{LineFault, Words};
 use std::alloc::Global;
 use std::fmt::{Debug, InlineText};
 
-/// What comes of a line. It takes no memory, so that only the subject can lack it. What is longer
+/// The answer to a line. It takes no memory, so that only the subject can lack it. What is longer
 /// than 256 bytes is cut, and ends in dots.
 pub type Text = InlineText<256>;
 
-/// What comes of a line if the subject was refused memory.
+/// The answer to a line if the subject was refused memory.
 pub const MEMORY: &str = "Memory";
 
 /// What the `Debug` of a value prints: of a plain enum, its name.

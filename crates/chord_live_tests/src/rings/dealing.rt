@@ -6,6 +6,7 @@ use crate::checks::check;
 use chord_caller::Ask;
 use chord_handover::Ticket;
 use chord_ident::Id;
+use chord_journal::JournalBuffer;
 use chord_links::Links;
 use chord_live_ring::{Target, Tidied, deal, tidy};
 use chord_live_steps::{deal_by_id, is_for};
@@ -126,7 +127,7 @@ fn deal_ask(alloc: Global, node: &mut Node<CappedStore>, number: u64, key: &[u8]
     requires near { number ≤ 16 }
 {
     match ask(alloc, number, key) {
-        Ok(ask) => dealt_by(deal(node, Message::Ask(ask))),
+        Ok(ask) => dealt_by(deal(node, Message::Ask(ask), &mut JournalBuffer::none(alloc))),
         Err(_) => Dealt::Memory,
     }
 }
@@ -173,7 +174,7 @@ fn deal_ask_by_id(alloc: Global, node: &mut Node<CappedStore>, number: u64, key:
         return Dealt::Memory;
     };
     let id = Id::of_bytes(ask.request.key());
-    dealt_by(deal_by_id(node, id, Message::Ask(ask)))
+    dealt_by(deal_by_id(node, id, Message::Ask(ask), &mut JournalBuffer::none(alloc)))
 }
 
 /// What a node sends for such a call that adds the only pair for which it has room.

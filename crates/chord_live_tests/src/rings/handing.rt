@@ -5,6 +5,7 @@ use crate::checks::check;
 use chord_caller::Ask;
 use chord_handover::{Part, Ticket};
 use chord_ident::Id;
+use chord_journal::JournalBuffer;
 use chord_links::Links;
 use chord_live_ring::{Target, deal};
 use chord_live_steps::is_for;
@@ -50,24 +51,45 @@ fn sent_by(sent: Option<(Target, Message)>) -> Sent {
 }
 
 /// What the receiver of a part sends for it.
-fn deal_part<S: EntryStore>(rt: &impl Abort, node: &mut Node<S>, part: Part) -> Sent {
+fn deal_part<S: EntryStore>(
+    rt: &impl Abort,
+    alloc: Global,
+    node: &mut Node<S>,
+    part: Part,
+) -> Sent {
     check!(rt; part.to == node.number(), "a part comes to its receiver");
-    sent_by(deal(node, Message::Part(part)).expect(rt, "memory for a part"))
+    let sent = deal(node, Message::Part(part), &mut JournalBuffer::none(alloc));
+    sent_by(sent.expect(rt, "memory for a part"))
 }
 
 /// What the giver of a handover sends once it hears that this was taken.
-fn deal_got<S: EntryStore>(rt: &impl Abort, node: &mut Node<S>, got: Ticket) -> Sent {
+fn deal_got<S: EntryStore>(
+    rt: &impl Abort,
+    alloc: Global,
+    node: &mut Node<S>,
+    got: Ticket,
+) -> Sent {
     check!(rt; got.from == node.number(), "a Got comes to the giver");
-    sent_by(deal(node, Message::Got(got)).expect(rt, "memory, of which none is taken"))
+    let sent = deal(node, Message::Got(got), &mut JournalBuffer::none(alloc));
+    sent_by(sent.expect(rt, "memory, of which none is taken"))
 }
 
 /// What the giver of a handover sends once it hears that this will not be taken.
-fn deal_declined<S: EntryStore>(rt: &impl Abort, node: &mut Node<S>, declined: Ticket) -> Sent {
+fn deal_declined<S: EntryStore>(
+    rt: &impl Abort,
+    alloc: Global,
+    node: &mut Node<S>,
+    declined: Ticket,
+) -> Sent {
     check!(rt;
         declined.from == node.number(),
         "a Declined comes to the giver"
     );
-    let sent = deal(node, Message::Declined(declined));
+    let sent = deal(
+        node,
+        Message::Declined(declined),
+        &mut JournalBuffer::none(alloc),
+    );
     sent_by(sent.expect(rt, "memory to hold a segment again"))
 }
 
@@ -80,7 +102,7 @@ fn give_half(alloc: Global, node: &mut Node<CappedStore>) -> Option<Part> {
         request: Request::insert(alloc, b"abc", b"x").ok()?,
         hops: 255,
     };
-    drop(deal(node, Message::Ask(ask)).ok()?);
+    drop(deal(node, Message::Ask(ask), &mut JournalBuffer::none(alloc)).ok()?);
     node.cut_at(0, Id::new(C)).ok()?;
     node.give(0, 1).ok()
 }
@@ -133,10 +155,15 @@ fn had_by<S: EntryStore>(node: &Node<S>) -> Has {
 }
 
 /// What a receiver sends for a part that comes twice, and what it has then.
-fn twice<S: EntryStore>(rt: &impl Abort, mut node: Node<S>, part: Part) -> (Sent, Sent, Has) {
+fn twice<S: EntryStore>(
+    rt: &impl Abort,
+    alloc: Global,
+    mut node: Node<S>,
+    part: Part,
+) -> (Sent, Sent, Has) {
     let again = part.try_copy().expect(rt, "memory for a part");
-    let first = deal_part(rt, &mut node, part);
-    let second = deal_part(rt, &mut node, again);
+    let first = deal_part(rt, alloc, &mut node, part);
+    let second = deal_part(rt, alloc, &mut node, again);
     let has = had_by(&node);
     drop(node);
     (first, second, has)
@@ -157,9 +184,9 @@ fn a_part_is_for_its_receiver(rt: HostRuntime) {
 fn a_part_is_answered_to_its_giver(rt: HostRuntime) {
     let alloc = rt.alloc();
     let (mut zero, part) = giver(alloc).expect(&rt, "memory for a giver");
-    let (first, second, one) = twice(&rt, receiver(alloc, 1), part);
+    let (first, second, one) = twice(&rt, alloc, receiver(alloc, 1), part);
     let before = had_by(&zero);
-    let freed = deal_got(&rt, &mut zero, FIRST);
+    let freed = deal_got(&rt, alloc, &mut zero, FIRST);
     let after = had_by(&zero);
     drop(zero);
     check!(&rt;
@@ -188,10 +215,10 @@ fn gone(rt: &impl Abort, alloc: Global) -> Node<CappedStore> {
 fn a_gone_node_declines_a_part(rt: HostRuntime) {
     let alloc = rt.alloc();
     let (mut zero, part) = giver(alloc).expect(&rt, "memory for a giver");
-    let (first, second, one) = twice(&rt, gone(&rt, alloc), part);
-    let back = deal_declined(&rt, &mut zero, FIRST);
+    let (first, second, one) = twice(&rt, alloc, gone(&rt, alloc), part);
+    let back = deal_declined(&rt, alloc, &mut zero, FIRST);
     let after = had_by(&zero);
-    let again = deal_declined(&rt, &mut zero, FIRST);
+    let again = deal_declined(&rt, alloc, &mut zero, FIRST);
     let last = had_by(&zero);
     drop(zero);
     check!(&rt; first == DECLINED, "a node that is gone takes nothing");
@@ -207,7 +234,7 @@ fn a_gone_node_declines_a_part(rt: HostRuntime) {
 fn a_full_store_answers_no_part(rt: HostRuntime) {
     let alloc = rt.alloc();
     let (zero, part) = giver(alloc).expect(&rt, "memory for a giver");
-    let (first, second, one) = twice(&rt, receiver(alloc, 0), part);
+    let (first, second, one) = twice(&rt, alloc, receiver(alloc, 0), part);
     let giver = had_by(&zero);
     drop(zero);
     check!(&rt; first == Sent::Nothing, "a full store sends nothing");

@@ -58,7 +58,7 @@ fn holds_any<J: Naming, S: EntryStore, R: Abort + Wait>(
 }
 
 /// Ticks both nodes until node 1, which has a worker, holds its segment.
-fn settle<J: Naming, S: EntryStore, R: Abort + Wait + Clock>(
+pub fn settle<J: Naming, S: EntryStore, R: Abort + Wait + Clock>(
     rt: &R,
     alloc: Global,
     ring: &Ring<J, S>,
@@ -89,7 +89,7 @@ fn ring_of_two<J: Naming, R: Abort + Wait>(
 }
 
 /// Does this in such a ring while node 1 has a worker, and node 0 too if it is to leave.
-fn does_in_two<J: Naming + Send + Sync, R: Abort + Threads + Wait + Clock + Sync>(
+pub fn does_in_two<J: Naming + Send + Sync, R: Abort + Threads + Wait + Clock + Sync>(
     rt: &R,
     alloc: Global,
     parts: RingParts,

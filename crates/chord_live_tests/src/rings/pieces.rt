@@ -6,6 +6,7 @@ use super::{A, C, Said, ZERO, call, founded, parts_with, settings, sight_of, suc
 use crate::checks::check;
 use chord_caller::Ask;
 use chord_ident::{Id, Span};
+use chord_journal::JournalBuffer;
 use chord_live::OpenCaller;
 use chord_live_ring::{Ring, RingParts, deal, join_adjoining, trim};
 use chord_map::Request;
@@ -44,7 +45,12 @@ fn with_three(alloc: Global) -> Option<Node<TreeStore>> {
             request: Request::insert(alloc, key.as_slice(), b"x").ok()?,
             hops: 255,
         };
-        drop(deal(&mut node, Message::Ask(ask)).ok()?);
+        drop(deal(
+            &mut node,
+            Message::Ask(ask),
+            &mut JournalBuffer::none(alloc),
+        )
+        .ok()?);
     }
     Some(node)
 }

@@ -1,6 +1,8 @@
 //! Workers of one or two nodes, and what is done beside them.
 
-use super::{callers, growths, kinds, pairs_of_nodes, pieces, settling, sights, trying};
+use super::{
+    callers, growths, journaling, kinds, pairs_of_nodes, pieces, settling, sights, trying,
+};
 use crate::checks::check;
 use chord_live_ring::{NoProbe, Ring};
 use chord_store::EntryStore;
@@ -33,6 +35,8 @@ pub enum Deed {
     BeginAtOne,
     /// Node 1 crashes while a client tries to insert there.
     Try,
+    /// A caller makes changes at both nodes, which a journal has.
+    AddToJournal,
 }
 
 impl Deed {
@@ -52,6 +56,7 @@ impl Deed {
             Deed::LeaveToFull => pairs_of_nodes::leaves_to_full(rt, alloc, ring),
             Deed::BeginAtOne => pairs_of_nodes::begins_at_one(rt, alloc, ring),
             Deed::Try => trying::tries(rt, alloc, ring),
+            Deed::AddToJournal => journaling::adds_to_a_journal(rt, alloc, ring),
         }
     }
 }

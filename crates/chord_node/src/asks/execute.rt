@@ -3,13 +3,15 @@ ghost use Rattle.std.specs.Prelude.{◌≡◌, Some, true, is_some, IfOk, IfSome
 ghost use Rattle.chord_ident.specs.Circle.{in_span};
 ghost use Rattle.chord_segment.specs.Segment.{id_of, past_at};
 ghost use Rattle.chord_segment.specs.Segment.Past.{New};
+ghost use Rattle.chord_journal.specs.Journal.{HasRoom};
 ghost use Rattle.chord_map.specs.Map.{IsValues};
-ghost use Rattle.chord_node.specs.Asked.{AnswersIn, done_with};
+ghost use Rattle.chord_node.specs.Asked.{AnswersIn, Journals, done_with, past_done};
 
 use crate::asks::answered::Answered;
 use crate::asks::apply::{apply, is_full};
 use chord_caller::{Ask, Told};
 use chord_ident::Id;
+use chord_journal::JournalBuffer;
 use chord_map::{Done, Reply, Request};
 use chord_segment::{Past, Segment};
 use chord_store::{EntryStore, StoreFault};
@@ -84,14 +86,20 @@ pub(crate) fn execute_ready<S: EntryStore>(
     id: Id,
     ask: Ask,
     buffered: Option<Request>,
+    journal: &mut JournalBuffer,
 ) -> Result<(Answered, Option<Done>), AllocError>
     requires id { id.number ≡ id_of ask.request }
     requires key { in_span segment.old.segment.span (id_of ask.request) ≡ true }
     requires new { past_at ask.caller ask.number segment.old.segment ≡ New }
     requires room { segment.old.room ≡ Some ask.caller }
     requires buffered { IfSome buffered (λ request. request ≡ ask.request) }
+    requires journal { HasRoom ask.request journal.old }
     ensures answers { AnswersIn ask (is_some buffered) segment.old.segment (S.content store.old) (S.limit store.old) result segment.new.segment (S.content store.new) }
     ensures limit { S.limit store.new ≡ S.limit store.old }
+    ensures journal { Journals result
+        (past_done (past_at ask.caller ask.number segment.old.segment)
+        ask (S.content store.old) (S.limit store.old))
+        journal.old journal.new }
 {
     let reply = match apply(alloc, store, id, &ask.request) {
         Ok(reply) => reply,
@@ -109,6 +117,7 @@ pub(crate) fn execute_ready<S: EntryStore>(
         drop(reply);
         return Err(AllocError);
     };
+    journal.append(&ask.request, &reply);
     let told = Told {
         caller: ask.caller,
         number: ask.number,
@@ -165,7 +174,16 @@ fn execute_in<S: EntryStore>(
             Err(AllocError)
         };
     };
-    execute_ready(alloc, segment, store, id, copy, Some(buffered))
+    let mut journal = JournalBuffer::none(alloc);
+    execute_ready(
+        alloc,
+        segment,
+        store,
+        id,
+        copy,
+        Some(buffered),
+        &mut journal,
+    )
 }
 
 /// Answers a call whose key lies in the segment's span;

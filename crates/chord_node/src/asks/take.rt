@@ -3,7 +3,7 @@ ghost use Rattle.std.specs.Prelude.{◌≡◌, true, false};
 ghost use Rattle.chord_ident.specs.Circle.{in_span};
 ghost use Rattle.chord_segment.specs.Segment.{id_of, past_at};
 ghost use Rattle.chord_segment.specs.Segment.Past.{New};
-ghost use Rattle.chord_node.specs.Asked.{AnswersIn};
+ghost use Rattle.chord_node.specs.Asked.{AnswersIn, Journals, past_done};
 ghost use Rattle.chord_node.specs.Passed.{PassesOn};
 
 use crate::asks::answered::Answered;
@@ -12,6 +12,7 @@ use crate::asks::execute::execute_ready;
 use crate::asks::pass_on::peer_of_hop;
 use chord_caller::{Ask, Told};
 use chord_ident::Id;
+use chord_journal::JournalBuffer;
 use chord_links::Links;
 use chord_map::Done;
 use chord_route::next_hop;
@@ -26,14 +27,19 @@ fn execute_taken<S: EntryStore>(
     store: &mut S,
     id: Id,
     ask: Ask,
+    journal: &mut JournalBuffer,
 ) -> Result<(Answered, Option<Done>), AllocError>
     requires id { id.number ≡ id_of ask.request }
     requires key { in_span segment.old.segment.span (id_of ask.request) ≡ true }
     requires new { past_at ask.caller ask.number segment.old.segment ≡ New }
     ensures answers { AnswersIn ask false segment.old.segment (S.content store.old) (S.limit store.old) result segment.new.segment (S.content store.new) }
     ensures limit { S.limit store.new ≡ S.limit store.old }
+    ensures journal { Journals result
+        (past_done (past_at ask.caller ask.number segment.old.segment)
+        ask (S.content store.old) (S.limit store.old))
+        journal.old journal.new }
 {
-    if segment.reserve(ask.caller).is_err() {
+    if segment.reserve(ask.caller).is_err() || journal.reserve(&ask.request).is_err() {
         let is_full = is_full(store, id, &ask.request);
         drop(ask);
         return if is_full {
@@ -42,7 +48,7 @@ fn execute_taken<S: EntryStore>(
             Err(AllocError)
         };
     }
-    execute_ready(alloc, segment, store, id, ask, None)
+    execute_ready(alloc, segment, store, id, ask, None, journal)
 }
 
 /// Answers a call whose key lies in the segment's span.
@@ -52,11 +58,16 @@ pub(crate) fn answer_taken<S: EntryStore>(
     store: &mut S,
     id: Id,
     ask: Ask,
+    journal: &mut JournalBuffer,
 ) -> Result<(Answered, Option<Done>), AllocError>
     requires id { id.number ≡ id_of ask.request }
     requires key { in_span segment.old.segment.span (id_of ask.request) ≡ true }
     ensures answers { AnswersIn ask false segment.old.segment (S.content store.old) (S.limit store.old) result segment.new.segment (S.content store.new) }
     ensures limit { S.limit store.new ≡ S.limit store.old }
+    ensures journal { Journals result
+        (past_done (past_at ask.caller ask.number segment.old.segment)
+        ask (S.content store.old) (S.limit store.old))
+        journal.old journal.new }
 {
     match segment.find(ask.caller, ask.number) {
         Past::Seen => {
@@ -73,7 +84,7 @@ pub(crate) fn answer_taken<S: EntryStore>(
             };
             Ok((Answered::Told(told), None))
         }
-        Past::New => execute_taken(alloc, segment, store, id, ask),
+        Past::New => execute_taken(alloc, segment, store, id, ask, journal),
     }
 }
 

@@ -3,7 +3,7 @@
 //! `found 1` begins with node 0, at A, which holds the circle and has room for 1 pair; `newborn 1
 //! 1@C` with node 1, at C, which holds nothing, and with `0@A` behind it lists node 0 and then
 //! itself. A script that says neither has `newborn 1 1@C`. `into-store` takes the store out and
-//! uses it: how many pairs it has, and what comes of inserting the key under itself, and then the
+//! uses it: how many pairs it has, and the outcome of inserting the key under itself, and then the
 //! value. Other deeds are those of `deeds`.
 //!
 //! Behind `; ` stands how the node stands: its phase, the spans that it holds, the number of its

@@ -3,6 +3,7 @@
 use chord_app_text::{GrammarFault, LineFault, Words};
 use chord_caller::Ask;
 use chord_ident::Id;
+use chord_journal::JournalBuffer;
 use chord_map::{Done, Request};
 use chord_node::{Answered, Node};
 use chord_segment::Past;
@@ -47,11 +48,11 @@ pub fn ask(alloc: Global, words: &mut Words) -> Result<Ask, LineFault> {
 }
 
 /// What the node answers, and what it executes.
-pub fn send<S: EntryStore>(node: &mut Node<S>, is_lent: bool, ask: Ask) -> Text {
+pub fn send<S: EntryStore>(alloc: Global, node: &mut Node<S>, is_lent: bool, ask: Ask) -> Text {
     if is_lent {
         lend(node, ask)
     } else {
-        hand_over(node, ask)
+        hand_over(alloc, node, ask)
     }
 }
 
@@ -64,11 +65,11 @@ fn lend<S: EntryStore>(node: &mut Node<S>, ask: Ask) -> Text {
     }
 }
 
-fn hand_over<S: EntryStore>(node: &mut Node<S>, ask: Ask) -> Text {
+fn hand_over<S: EntryStore>(alloc: Global, node: &mut Node<S>, ask: Ask) -> Text {
     let number = ask.number;
     let was_kept = kept(node, number).is_some();
     let id = Id::of_bytes(ask.request.key());
-    let Ok(answered) = node.take_ask(id, ask) else {
+    let Ok(answered) = node.take_ask(id, ask, &mut JournalBuffer::none(alloc)) else {
         return Text::of(MEMORY);
     };
     let text = answer_of(answered);

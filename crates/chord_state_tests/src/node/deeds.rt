@@ -28,7 +28,7 @@ use chord_testkit::{
 use std::alloc::{AllocError, Global};
 use std::fmt::Debug;
 
-/// Does what the words say, and tells what comes of it.
+/// Does what the words say, and tells the outcome.
 pub fn deed<S: EntryStore>(
     alloc: Global,
     node: &mut Node<S>,
@@ -36,7 +36,7 @@ pub fn deed<S: EntryStore>(
     words: &mut Words,
 ) -> Result<Text, LineFault> {
     match words.word()? {
-        "ask" => Ok(send(node, is_lent, ask(alloc, words)?)),
+        "ask" => Ok(send(alloc, node, is_lent, ask(alloc, words)?)),
         "cut" => Ok(of_result(node.cut_at(index(words)?, ident(words)?))),
         "merge" => Ok(of_result(node.merge(index(words)?, index(words)?))),
         "give" => Ok(give(node, index(words)?, words.number()?)),
@@ -288,7 +288,7 @@ fn take<S: EntryStore>(node: &mut Node<S>, part: Part) -> Text {
 /// Node 0, which holds the circle with x under `abc`, gives (A, C] to node 1.
 fn give_half(alloc: Global, node: &mut Node<CappedStore>) -> Option<Part> {
     let call = ask(alloc, &mut Words::new("1 insert abc x")).ok()?;
-    let sent = send(node, true, call);
+    let sent = send(alloc, node, true, call);
     if sent.as_str() == MEMORY {
         return None;
     }

@@ -1,10 +1,13 @@
-use Rattle.std.proofs.Common.{None, Some, ap, ◌∙◌, sym}
+use Rattle.std.proofs.Common.{None, Some, Ok, ap, ◌∙◌, sym, subst}
+use Rattle.chord_journal.specs.Journal.{JournalIs}
 use Rattle.chord_live_ring.proofs.Coming.{acted, shown_by}
-use Rattle.chord_live_steps.specs.Dealt.{message_in}
+use Rattle.chord_live_ring.proofs.Additions.{silent_none}
+use Rattle.chord_live_steps.specs.Dealt.{DealIs, message_in}
 use Rattle.chord_model.specs.Node.{Node}
 use Rattle.chord_table.proofs.Becoming.{taking_keeps}
 use Rattle.chord_table.specs.Scenes.{place_of}
 use Rattle.chord_table.specs.Views.{NodeSight}
+use Rattle.chord_live_ring.proofs.seated_node.SeatedNode.deal_with.Goals.{in-Ok-Some, in-Ok-None, in-Err}
 use Rattle.chord_live_ring.proofs.seated_node.SeatedNode.deal_with.Goals as goal
 
 pub send-envelope-requires : goal.send-envelope-requires
@@ -33,3 +36,18 @@ local-requires g c =
       );
       place = taking_keeps crashed c.self.inside.node c.deal_by_id.new.node c.receive-message.result (message_in c.in-Ok-None.field-0) step.0 step.1 ∙ ap (λ (n : Node). place_of crashed n) mine;
     }
+
+pub returns-clause-unchanged : goal.returns-clause-unchanged
+returns-clause-unchanged g c =
+    let message = c.receive-message.result in
+    let old = c.self.inside.node in
+    let new = c.deal_by_id.new.node in
+    let journal = c.args.journal.now in
+    let journal' = c.deal_by_id.new.journal in
+    elim c.match-deal_by_id.branch [
+      | in-Ok-Some w ↦ rw w.result-is (tt)
+      | in-Ok-None w ↦
+          let silent = subst (λ sent. DealIs message old (Ok sent) new) w.in-Ok-None.field-0-is w.in-Ok-None.ensures.answer in
+          rw w.result-is (subst (λ did. JournalIs journal did journal') (silent_none message old new silent) w.in-Ok-None.ensures.journal)
+      | in-Err w ↦ rw w.result-is (w.in-Err.ensures.journal)
+    ]

@@ -1,0 +1,4 @@
+pub mod Spelling
+pub mod Loads
+pub mod Readings
+pub mod Commands
