@@ -8,8 +8,8 @@
 #![tactic(auto)]
 
 use chord_app_options::{
-    commands, plan_path_of, print_fault, serve_line_of, start_ask, start_load, start_ring,
-    stores_of,
+    RingSource, commands, plan_path_of, print_fault, serve_line_of, start_ask, start_load,
+    start_ring, stores_of,
 };
 use chord_app_plan::{Plan, PlanFault, Settings, StoreKind, read_plan};
 use chord_app_serve::{ServerStores, open_files, run, serve, stay};
@@ -23,12 +23,13 @@ use chord_tree_store::TreeStore;
 use clap::ArgMatches;
 use log::{Level, Logged};
 use std::hash::RandomState;
+use std::io::{self, IsTerminal, Stdin};
 use std::net::{Net, TcpListener, TcpStream};
 use std::process::ExitCode;
 use std::sync::{Arc, OnceLock, Wait};
 use std::thread::Threads;
 use std::time::Clock;
-use std::{env, fs, io};
+use std::{env, fs};
 
 /// How many files a server has open at most beside the connections of its clients: doors,
 /// operators, and two for each event loop.
@@ -64,7 +65,7 @@ fn plan_of(rt: &HostRuntime, path: &str) -> Result<Plan, Finish> {
         Ok(plan) => Ok(plan),
         Err(PlanFault::OutOfMemory) => Err(Finish::OutOfMemory),
         Err(fault) => {
-            eprintln!(rt; "{fault}")?;
+            eprintln!(rt; "fault plan\n{path}: {fault}")?;
             Err(Finish::BadPlan)
         }
     }
@@ -77,8 +78,10 @@ struct ServeOptions<'a> {
     frames: Option<TcpListener>,
     /// Where Redis's clients connect.
     redis: Option<TcpListener>,
-    /// How many connections it serves; with none it serves until standard input ends.
+    /// How many connections it serves; with none it serves until it is stopped.
     connections: Option<usize>,
+    /// Whether a server that stays ends with its input, whatever that is.
+    ends_with_input: bool,
     /// What its clients are allowed if the server stays.
     limits: ClientLimits,
     /// Where it serves operators, if it does.
@@ -208,6 +211,16 @@ fn split<S: EntryStore>(stores: Vec<S>, nodes: usize) -> Result<ServerStores<S>,
     })
 }
 
+/// The input whose end ends a server that stays, if one does: a terminal's. Any other may be closed
+/// from the start, as that of a service is.
+fn ending_input(rt: &HostRuntime, ends_with_input: bool) -> Option<Stdin> {
+    let input = rt.stdin();
+    if ends_with_input || input.is_terminal() {
+        return Some(input);
+    }
+    None
+}
+
 /// Serves clients over these stores, those of the plan's nodes first.
 fn serve_over<'a, T: Host>(
     rt: &HostRuntime,
@@ -241,7 +254,7 @@ fn serve_over<'a, T: Host>(
             &setup,
             stores,
             options.limits,
-            rt.stdin(),
+            ending_input(rt, options.ends_with_input),
             rt.stdout(),
         )?,
     };
@@ -277,7 +290,17 @@ fn start_serve<T: Host>(
         Ok(line) => line,
         Err(fault) => return print_fault(rt, fault),
     };
-    let plan = plan_of(rt, line.plan)?;
+    let plan = match line.ring {
+        RingSource::Plan(path) => plan_of(rt, path)?,
+        RingSource::Even(nodes) => Plan::even(rt.alloc(), nodes)?,
+    };
+    let settings = plan.settings_with(line.slots, line.callers);
+    if settings.slots < plan.nodes.len() {
+        let (slots, nodes) = (settings.slots, plan.nodes.len());
+        eprintln!(rt; "fault plan\n--slots {slots} is below the plan's {nodes} nodes")?;
+        drop(plan);
+        return Err(Finish::BadPlan);
+    }
     let frames = listen_at(threads, line.port)?;
     let redis = listen_at(threads, line.redis)?;
     let operator = OperatorDoor::at(rt, threads, line.operator)?;
@@ -287,6 +310,7 @@ fn start_serve<T: Host>(
         frames,
         redis,
         connections: line.connections,
+        ends_with_input: line.ends_with_input,
         limits: ClientLimits {
             idle: line.idle,
             keep: line.keep,
@@ -295,7 +319,6 @@ fn start_serve<T: Host>(
         operator,
         notes: Logged::new(rt, level, rt),
     };
-    let settings = plan.settings_with(line.slots, line.callers);
     warn_of_files(rt, settings.callers)?;
     let ended = start_with_stores(rt, threads, &plan, settings, Some(&options));
     drop(options);

@@ -7,9 +7,9 @@ use std::sync::atomic::{AtomicU64, Ordering};
 pub(crate) const SMALL_BYTES: u64 = 65_536;
 
 /// How many bytes all connections of a server hold: of requests that are not answered, and of
-/// answers that are not written. Above the limit, one that holds more than 65,536 is not read; where
-/// that lasts for a second, the one that holds the most ends. Above twice the limit, each ends that
-/// holds more than 65,536 behind its turn.
+/// answers that are not written. Above the limit, one that holds more than 65,536 is not read;
+/// where that lasts for a second, the one that holds the most ends. Above twice the limit, each
+/// ends that holds more than 65,536 behind its turn.
 #[derive(Drop)]
 pub struct Budget {
     limit: u64,
@@ -59,8 +59,8 @@ impl Budget {
         self.largest.fetch_max(bytes, Ordering::Relaxed);
     }
 
-    /// Whether no connection of another event loop was found that holds more. If so, the next one to
-    /// end is looked for anew.
+    /// Whether no connection of another event loop was found that holds more. If so, the next one
+    /// to end is looked for anew.
     pub(crate) fn is_largest(&self, bytes: u64) -> bool {
         if bytes < self.largest.load(Ordering::Relaxed) {
             return false;

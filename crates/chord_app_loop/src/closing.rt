@@ -12,9 +12,9 @@ const DROP_SECONDS: u64 = 1;
 /// How many bytes of a client are dropped at most, but for the last read.
 const DROP_BYTES: usize = 1_048_576;
 
-/// A connection of which the server's side is ended. If it were closed while bytes of its client are
-/// unread, it would be reset, and answers that the client has not read would be lost. So what comes
-/// is dropped, until the client ends its side, a second is over, or 1 MiB came.
+/// A connection of which the server's side is ended. If it were closed while bytes of its client
+/// are unread, it would be reset, and answers that the client has not read would be lost. So what
+/// comes is dropped, until the client ends its side, a second is over, or 1 MiB came.
 #[derive(Drop)]
 pub(crate) struct Closing {
     pub number: u64,

@@ -21,8 +21,12 @@ use std::os::fd::{AsRawFd, RawFd};
 use std::sync::{Arc, Wait};
 use std::time::{Clock, Duration, Instant};
 
-/// How often the first loop looks for more behind work before it sleeps.
+/// How often the first loop looks for more behind work before it sleeps, while it has all
+/// connections.
 const POLLS: u32 = 100;
+
+/// How often it does while other loops have some: their clients want the processor.
+const CROWDED_POLLS: u32 = 1;
 
 /// Behind how many waits in a row that found something at once the first loop gives a connection to
 /// another one.
@@ -127,8 +131,8 @@ impl<'l, R, O, P: Protocol, S: Stream> EventLoop<'l, R, O, P, S> {
         let _ = registry.deregister(&mut SourceFd(&descriptor)).is_ok();
     }
 
-    /// Whether connections wait closely for their next tries, so that a sleep of whole milliseconds is
-    /// too long.
+    /// Whether connections wait closely for their next tries, so that a sleep of whole milliseconds
+    /// is too long.
     fn is_close(&self) -> bool {
         match self.timer.first() {
             Some((_, key)) => match self.places.get(key) {
@@ -180,7 +184,11 @@ impl<R: Clock, O, P: Protocol, S: Stream> EventLoop<'_, R, O, P, S> {
             0
         };
         self.polls = if is_found && self.setting.is_first {
-            POLLS
+            if self.setting.loops.has_given() {
+                CROWDED_POLLS
+            } else {
+                POLLS
+            }
         } else {
             self.polls.saturating_sub(1)
         };
@@ -202,8 +210,8 @@ impl<R: Clock, O, P: Protocol, S: Stream> EventLoop<'_, R, O, P, S> {
         }
     }
 
-    /// Notes that the connection of this key, which begins, is met after this many milliseconds. Says
-    /// false if that cannot be.
+    /// Notes that the connection of this key, which begins, is met after this many milliseconds.
+    /// Says false if that cannot be.
     fn meet_later(&mut self, key: usize, milliseconds: u64) -> bool {
         let Some(now) = self.now() else {
             return false;
@@ -265,6 +273,9 @@ impl<R: Clock, O: Owner<P, S>, P: Protocol + Drop, S: Stream + AsRawFd + Drop> E
             Place::Served(seat) => {
                 self.deregister(seat.as_raw_fd());
                 self.setting.owner.budget().note(seat.held, 0);
+                if !self.setting.is_first {
+                    self.setting.loops.note_end_of_given();
+                }
                 let (number, stream, protocol) = seat.into_parts();
                 self.leave(number, stream, ended, Some(protocol));
             }
@@ -547,8 +558,8 @@ impl<R: Clock, O: Owner<P, S>, P: Protocol + Drop, S: Stream + AsRawFd + Drop> E
         largest
     }
 
-    /// Where all connections hold too much for a second, ends the one that holds the most. Where they
-    /// do no more, goes on with those that were held back.
+    /// Where all connections hold too much for a second, ends the one that holds the most. Where
+    /// they do no more, goes on with those that were held back.
     fn look_at_memory(&mut self) {
         let budget = self.setting.owner.budget();
         if !budget.is_over() {
@@ -635,8 +646,8 @@ impl<R: Wait + Clock, O: Owner<P, S>, P: Protocol + Drop, S: Stream + AsRawFd + 
         }
     }
 
-    /// Gives one of the connections that have something to another loop, where this one has not slept
-    /// for a while.
+    /// Gives one of the connections that have something to another loop, where this one has not
+    /// slept for a while.
     fn give_away(&mut self) {
         if !self.setting.is_first || self.busy_waits < BUSY_WAITS {
             return;

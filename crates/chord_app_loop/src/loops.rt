@@ -84,6 +84,8 @@ pub struct Loops<P: Protocol, S: Stream> {
     pub(crate) rules: Rules,
     /// Which one gets the next connection that the first one gives away.
     turn: AtomicU64,
+    /// How many connections the loops behind the first one have.
+    given: AtomicU64,
     is_over: AtomicBool,
 }
 
@@ -111,6 +113,7 @@ impl<P: Protocol + Drop, S: Stream + Drop> Loops<P, S> {
             others,
             rules,
             turn: AtomicU64::new(0),
+            given: AtomicU64::new(0),
             is_over: AtomicBool::new(false),
         })
     }
@@ -158,6 +161,17 @@ impl<P: Protocol, S: Stream> Loops<P, S> {
         self.wake();
     }
 
+    /// Notes that a connection of a loop behind the first one ended.
+    pub(crate) fn note_end_of_given(&self) {
+        self.given.fetch_sub(1, Ordering::Relaxed);
+    }
+
+    /// Whether the loops behind the first one have connections, so that there are more busy clients
+    /// than one loop serves.
+    pub(crate) fn has_given(&self) -> bool {
+        self.given.load(Ordering::Relaxed) > 0
+    }
+
     pub(crate) fn is_over(&self) -> bool {
         self.is_over.load(Ordering::SeqCst)
     }
@@ -175,6 +189,7 @@ impl<P: Protocol + Drop, S: Stream + Drop> Loops<P, S> {
         let turn = self.turn.fetch_add(1, Ordering::SeqCst) as usize;
         match self.others.get(turn % self.others.len().max(1)) {
             Some(other) => {
+                self.given.fetch_add(1, Ordering::Relaxed);
                 other.send(rt, Coming::Given(seat));
                 None
             }

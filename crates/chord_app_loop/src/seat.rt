@@ -18,6 +18,9 @@ use std::time::{Duration, Instant};
 /// How many rounds of a read, answers and a write a connection has before others have theirs.
 const MOST_ROUNDS: u32 = 4;
 
+/// A connection that wrote more bytes than these has no further round before others have theirs.
+const MOST_BYTES: usize = 65_536;
+
 /// How many tries of a request follow each other closely.
 const CLOSE_TRIES: u32 = 3;
 
@@ -94,6 +97,8 @@ pub(crate) struct Seat<P: Protocol, S: Stream> {
     input: u64,
     /// How many bytes it holds, as the budget counts them.
     pub held: u64,
+    /// Whether its input ends, so that it is read for its end alone.
+    is_ending: bool,
     /// Whether it is not read, since all connections hold too much.
     pub is_held_back: bool,
 }
@@ -114,6 +119,7 @@ impl<P: Protocol, S: Stream> Seat<P, S> {
             looks: 0,
             input: 0,
             held: 0,
+            is_ending: false,
             is_held_back: false,
         }
     }
@@ -133,6 +139,7 @@ impl<P: Protocol, S: Stream> Seat<P, S> {
 
     /// Notes that its input ends. The request that waits is tried for the last time.
     pub fn note_end(&mut self) {
+        self.is_ending = true;
         self.may_read = true;
         self.link.stop_waiting();
     }
@@ -146,8 +153,8 @@ impl<P: Protocol, S: Stream> Seat<P, S> {
         self.looks > most
     }
 
-    /// Reads once, if there may be something. Behind less than the buffer takes there is no more, but
-    /// for the end.
+    /// Reads once, if there may be something. Behind less than the buffer takes there is no more,
+    /// but for the end.
     fn read(&mut self, buffer: &mut [u8]) {
         if !self.may_read || self.is_held_back || self.turns == 0 || !self.link.wants_read() {
             return;
@@ -163,14 +170,20 @@ impl<P: Protocol, S: Stream> Seat<P, S> {
         }
     }
 
-    /// Writes once, if there is something to write.
-    fn write(&mut self) {
+    /// Writes once, if there is something to write. Says how many bytes were written.
+    fn write(&mut self) -> usize {
         if !self.may_write || !self.link.wants_write() {
-            return;
+            return 0;
         }
         match self.link.write_to() {
-            Ok(_) => self.looks = 0,
-            Err(error) => self.may_write = error.kind() != ErrorKind::WouldBlock,
+            Ok(count) => {
+                self.looks = 0;
+                count
+            }
+            Err(error) => {
+                self.may_write = error.kind() != ErrorKind::WouldBlock;
+                0
+            }
         }
     }
 
@@ -220,7 +233,7 @@ impl<P: Protocol, S: Stream> Seat<P, S> {
         ensures over { (end : EndedOf) → result ≡ Driven.Ended end → (self.new.is_shut ≡ true)
             ⊎ ((self.new.link.machine.is_lost ≡ true) ⊎ (self.new.link.machine.due ≡ [])) }
     {
-        self.is_held_back = self.held > SMALL_BYTES && budget.is_over();
+        self.is_held_back = self.held > SMALL_BYTES && budget.is_over() && !self.is_ending;
         let driven = self.drive_rounds(buffer);
         self.count(budget);
         if self.held > SMALL_BYTES && budget.is_far_over() && !matches!(driven, Driven::Ended(_)) {
@@ -234,10 +247,11 @@ impl<P: Protocol, S: Stream> Seat<P, S> {
         ensures over { (end : EndedOf) → result ≡ Driven.Ended end → (self.new.is_shut ≡ true)
             ⊎ ((self.new.link.machine.is_lost ≡ true) ⊎ (self.new.link.machine.due ≡ [])) }
     {
+        let mut written: usize = 0;
         for _ in 0..MOST_ROUNDS {
             self.read(buffer);
             self.link.advance();
-            self.write();
+            written = written.saturating_add(self.write());
             if let Some(ended) = self.ended() {
                 return Driven::Ended(ended);
             }
@@ -248,12 +262,15 @@ impl<P: Protocol, S: Stream> Seat<P, S> {
                     Driven::Rests
                 };
             }
+            if written > MOST_BYTES {
+                return Driven::Again;
+            }
         }
         Driven::Again
     }
 
-    /// When the request that waits is tried again, which is noted. One that waits for the first time
-    /// does so since now.
+    /// When the request that waits is tried again, which is noted. One that waits for the first
+    /// time does so since now.
     pub fn schedule(&mut self, now: Instant, rules: &Rules) -> Option<Instant> {
         let tries = self.link.tries();
         if tries <= 1 {
@@ -301,6 +318,7 @@ impl<P: Protocol, S: Stream + Drop> Seat<P, S> {
             looks: _,
             input: _,
             held: _,
+            is_ending: _,
             is_held_back: _,
         } = self;
         (number, stream, link.into_protocol())

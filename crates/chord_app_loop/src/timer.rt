@@ -4,8 +4,8 @@ use std::alloc::Global;
 use std::collections::BTreeSet;
 use std::time::Instant;
 
-/// The keys of connections, each with a time at which it is driven. A key may have several times, and
-/// may be another connection's when its time comes.
+/// The keys of connections, each with a time at which it is driven. A key may have several times,
+/// and may be another connection's when its time comes.
 #[derive(Drop)]
 pub(crate) struct Timer {
     times: BTreeSet<(Instant, usize)>,

@@ -8,7 +8,8 @@ use chord_serve::{Asked, Asker};
 use chord_serve_testkit::{added, note};
 use std::alloc::Global;
 
-/// Adds each value, at once but for keys that begin with `late`: these are tried in vain this often.
+/// Adds each value, at once but for keys that begin with `late`: these are tried in vain this
+/// often.
 #[derive(Drop)]
 pub struct LateAsker {
     requests: Vec<Request>,

@@ -59,8 +59,8 @@ fn read_to_end(client: &mut TcpStream) {
 }
 
 /// What was seen of a server whose connections may hold 200,000 bytes. Its client 0 sends 29 of 30
-/// values, which it may hold alone, then client 1 sends 59 of 60, and client 2 asks beside them. When
-/// client 1 was ended, client 0 sends its last value.
+/// values, which it may hold alone, then client 1 sends 59 of 60, and client 2 asks beside them.
+/// When client 1 was ended, client 0 sends its last value.
 #[derive(Clone, Copy, Debug, PartialEq, Eq)]
 struct Seen {
     is_begun: bool,
@@ -115,8 +115,8 @@ fn who_holds_the_most_is_ended(rt: HostRuntime) {
 }
 
 /// How a client's connection ends that sends 59 of 60 values to a server whose connections may hold
-/// this many bytes and that is told to end once 50 came or the connection was ended, and what is held
-/// then.
+/// this many bytes and that is told to end once 50 came or the connection was ended, and what is
+/// held then.
 fn end_of_one<R: Threads + Wait + Clock + Net<Listener = TcpListener, Stream = TcpStream> + Sync>(
     rt: &R,
     alloc: Global,

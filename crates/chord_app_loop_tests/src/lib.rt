@@ -8,8 +8,12 @@ mod budgets;
 #[cfg(test)]
 mod checks;
 #[cfg(test)]
+mod operators;
+#[cfg(test)]
 mod parties;
 #[cfg(test)]
 mod serving;
+#[cfg(test)]
+mod simulated;
 #[cfg(test)]
 mod waiting;

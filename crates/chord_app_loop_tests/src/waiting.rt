@@ -59,8 +59,8 @@ fn nobody_waits_for_another(rt: HostRuntime) {
     check!(&rt; ask_beside(&rt, rt.alloc()).is_ok_and(|waited| waited));
 }
 
-/// How three connections end that are told to: of a client that is silent, of one that sent a command
-/// in part, and of one whose request waits, which is told that it has no answer.
+/// How three connections end that are told to: of a client that is silent, of one that sent a
+/// command in part, and of one whose request waits, which is told that it has no answer.
 fn ends_when_told<
     R: Threads + Wait + Clock + Net<Listener = TcpListener, Stream = TcpStream> + Sync,
 >(rt: &R, alloc: Global) -> io::Result<[Option<Ended>; 3]> {

@@ -5,4 +5,4 @@ pub mod Lines
 pub mod Members
 pub mod Objects
 pub mod Shown
-pub mod Conversations
+pub mod Tales

@@ -13,4 +13,5 @@ pub mod Requests
 pub mod Services
 pub mod Shares
 pub mod Sites
+pub mod Told
 pub mod Words

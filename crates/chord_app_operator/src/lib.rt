@@ -5,12 +5,14 @@
 //! and writes one answer.
 #![tactic(auto)]
 
+mod link;
 mod operator;
 mod request;
 mod service;
 mod show;
 mod sight;
 
+pub use link::{Duplex, OperatorLink};
 pub use operator::{
     CrashRefusal, Holder, JoinRefusal, LeaveRefusal, Operator, PageState, Pair, PairsPage,
     RescueRefusal,

@@ -21,8 +21,6 @@ use http::{Request, StatusCode};
 use http_server::{Response, Service};
 use std::alloc::{AllocError, Global};
 
-mod connection;
-
 /// Answers the requests to an operator at a port. It asks the operator once for each call, and not
 /// at all for a request that it refuses.
 #[derive(Drop)]
@@ -45,6 +43,12 @@ impl<O: Operator> OperatorService<O> {
             site,
             operator,
         })
+    }
+
+    pub(crate) fn alloc(&self) -> Global
+        ensures { result ≡ self.now.alloc }
+    {
+        self.alloc
     }
 
     /// The operator, back from its service.

@@ -2,6 +2,8 @@
 use Rattle.std.specs.Prelude.{◌≡◌, ℕ, ◌≤◌, ◌<◌, ◌⊎◌, ◌^◌, List, length}
 use Rattle.std.specs.List.{All}
 use Rattle.std.specs.Str.Parse.{IsNumeral, digits_value, without_leading_plus}
+use Rattle.chord_app_options.specs.declared.serve.RingSource.{RingSource}
+use Rattle.chord_app_options.specs.declared.serve.RingSource.TheVariants.{Plan, Even}
 
 -- from the least to the most
 abbrev pub IsWithin : ℕ → ℕ → ℕ → Type 0
@@ -11,6 +13,11 @@ IsWithin least most number = (least ≤ number) × (number ≤ most)
 abbrev pub IsNumberFrom : ℕ → ℕ → List ℕ → ℕ → Type 0
 IsNumberFrom least most word number =
     IsNumeral 10 (without_leading_plus word) × (digits_value 10 (without_leading_plus word) ≡ number) × IsWithin least most number
+
+-- a plan, or 1 to 64 nodes without one
+abbrev pub IsSource : RingSource → Type 0
+IsSource (Plan path) = Unit {0}
+IsSource (Even nodes) = IsWithin 1 64 nodes
 
 -- one of a number from 1 to 65,535
 abbrev pub IsSmall : List ℕ → ℕ → Type 0

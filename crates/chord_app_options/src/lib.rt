@@ -25,6 +25,6 @@ pub use load::{load_of, start_load};
 pub use number::{number_from, small_number};
 pub use program::commands;
 pub use ring::{ring_task_of, start_ring};
-pub use serve::{ServeLine, serve_line_of};
+pub use serve::{RingSource, ServeLine, serve_line_of};
 pub use shared::{plan_path_of, wants_session};
 pub use world::{names_stores, stores_of};

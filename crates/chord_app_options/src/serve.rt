@@ -1,9 +1,11 @@
 //! The command line of `serve`.
+ghost use Rattle.std.specs.Prelude.{IfOk, IfSome};
+ghost use Rattle.chord_app_options.specs.Words.{IsSource, IsWithin};
 
 use crate::faults::fault_of;
 use crate::number::{NumberOption, WrongNumber};
 use crate::parts::{flag, with_argument, with_group, with_made_argument, with_numbers};
-use crate::shared::{plan_option, plan_path_of};
+use crate::shared::plan_option;
 use clap::{ArgGroup, ArgMatches, Command};
 use std::alloc::{AllocError, Global};
 
@@ -22,13 +24,22 @@ const REDIS: NumberOption = NumberOption {
     ..PORT
 };
 
+const NODES: NumberOption = NumberOption {
+    name: "nodes",
+    value_name: "N",
+    least: 1,
+    most: 64,
+    default: None,
+    help: "Without a plan: how many nodes divide the circle evenly, 1 to 64, else 1",
+};
+
 const CONNECTIONS: NumberOption = NumberOption {
     name: "connections",
     value_name: "K",
     least: 1,
     most: 65_535,
     default: None,
-    help: "How many connections are served, 1 to 65535",
+    help: "How many connections are served, 1 to 65535; else it stays",
 };
 
 /// For how many seconds a client may be idle if the command line does not say.
@@ -43,19 +54,19 @@ const IDLE: NumberOption = NumberOption {
     least: 1,
     most: 86_400,
     default: None,
-    help: "With --stay: how long a client may be idle, 1 to 86400, else 300",
+    help: "If it stays: how long a client may be idle, 1 to 86400, else 300",
 };
 
 const KEEP: NumberOption = NumberOption {
     name: "keep",
     least: 0,
-    help: "With --stay: how long a session without a connection is kept, 0 to 86400, else 600",
+    help: "If it stays: how long a session without a connection is kept, 0 to 86400, else 600",
     ..IDLE
 };
 
 const OPERATOR: NumberOption = NumberOption {
     name: "operator",
-    help: "With --stay: an operator's port on 127.0.0.1, 1 to 65535, or 0 for any that is free",
+    help: "If it stays: an operator's port on 127.0.0.1, 1 to 65535, or 0 for any that is free",
     ..PORT
 };
 
@@ -65,13 +76,13 @@ const SLOTS: NumberOption = NumberOption {
     least: 1,
     most: 4_096,
     default: None,
-    help: "With --stay: how many nodes there may ever be, 1 to 4096, else the plan's",
+    help: "If it stays: how many nodes there may ever be, 1 to 4096, else the plan's",
 };
 
 const CALLERS: NumberOption = NumberOption {
     name: "callers",
     most: 16_384,
-    help: "With --stay: how many callers there may be, 1 to 16384, else the plan's",
+    help: "If it stays: how many callers there may be, 1 to 16384, else the plan's",
     ..SLOTS
 };
 
@@ -85,12 +96,20 @@ const BUFFERS: NumberOption = NumberOption {
     name: "buffers",
     value_name: "MB",
     most: 65_536,
-    help: "With --stay: how many megabytes all connections may hold, 1 to 65536, else 256",
+    help: "If it stays: how many megabytes all connections may hold, 1 to 65536, else 256",
     ..SLOTS
 };
 
+/// How many callers there may be if neither the command line nor a plan says: enough for many
+/// clients, and few enough that most systems let the process have as many files.
+const CALLERS_WITHOUT_PLAN: usize = 512;
+
 /// The help of `--stay`.
-const STAY: &str = "Serves until standard input ends";
+const STAY: &str = "Serves until it is stopped, as without --connections";
+
+/// The help of `--until-input-ends`.
+const UNTIL_INPUT_ENDS: &str =
+    "Serves until standard input ends, as where that is a terminal, or until it is stopped";
 
 /// The help of `--notes`.
 const NOTES: &str = "Notes on standard error how each connection ends, as it ends";
@@ -115,21 +134,27 @@ fn ports_group<'a>(alloc: Global) -> Result<ArgGroup<'a>, AllocError> {
     Ok(ports.required(true).multiple(true))
 }
 
-/// For how long to serve: exactly one of the two options.
+/// Where the nodes come from: at most one of the two options.
+fn nodes_group<'a>(alloc: Global) -> Result<ArgGroup<'a>, AllocError> {
+    ArgGroup::new(alloc, "ring").arg("plan")?.arg("nodes")
+}
+
+/// For how long to serve: at most one of the two options.
 fn until_group<'a>(alloc: Global) -> Result<ArgGroup<'a>, AllocError> {
-    let until = ArgGroup::new(alloc, "until")
+    ArgGroup::new(alloc, "until")
         .arg("connections")?
-        .arg("stay")?;
-    Ok(until.required(true))
+        .arg("stay")
 }
 
 /// The command `serve` and its arguments.
 pub fn serve_command<'a>(alloc: Global) -> Result<Command<'a>, AllocError> {
     let serve = Command::new(alloc, "serve")
         .about("Serves clients over loopback, and writes how each connection ended")
-        .arg(plan_option(alloc, "The ring's numbers and nodes, as TOML"));
-    let serve = with_numbers(alloc, serve, &[PORT, REDIS, CONNECTIONS]);
+        .arg(plan_option(alloc, "The ring's numbers and nodes, as TOML").required(false));
+    let serve = with_numbers(alloc, serve, &[NODES, PORT, REDIS, CONNECTIONS]);
     let serve = with_argument(serve, flag(alloc, "stay", STAY));
+    let until = flag(alloc, "until-input-ends", UNTIL_INPUT_ENDS);
+    let serve = with_made_argument(serve, until.conflicts_with("connections"));
     let serve = with_argument(serve, flag(alloc, "notes", NOTES));
     let serve = with_staying(
         alloc,
@@ -137,20 +162,31 @@ pub fn serve_command<'a>(alloc: Global) -> Result<Command<'a>, AllocError> {
         &[IDLE, KEEP, OPERATOR, SLOTS, CALLERS, BUFFERS],
     );
     let serve = with_group(serve, ports_group(alloc));
+    let serve = with_group(serve, nodes_group(alloc));
     with_group(serve, until_group(alloc))
+}
+
+/// Where the nodes of a server come from.
+#[derive(Clone, Copy, Debug, PartialEq, Eq)]
+pub enum RingSource<'a> {
+    /// The plan at this path.
+    Plan(&'a str),
+    /// There is no plan: this many nodes divide the circle evenly.
+    Even(usize),
 }
 
 /// What a command line of `serve` says.
 #[derive(Clone, Copy, Debug)]
 pub struct ServeLine<'a> {
-    /// The path of the plan.
-    pub plan: &'a str,
+    pub ring: RingSource<'a>,
     /// The port for clients that speak in frames.
     pub port: Option<u16>,
     /// The port for Redis's clients. At least one of the two is there.
     pub redis: Option<u16>,
-    /// How many connections are served; with none, those until standard input ends.
+    /// How many connections are served; with none, the server stays until it is stopped.
     pub connections: Option<usize>,
+    /// Whether a server that stays ends with its input, whatever that is.
+    pub ends_with_input: bool,
     /// For how many seconds a client may be idle if the server stays.
     pub idle: u64,
     /// For how many seconds a session without a connection is kept if the server stays.
@@ -159,10 +195,10 @@ pub struct ServeLine<'a> {
     pub operator: Option<u16>,
     /// How many nodes there may ever be, where the command line says so in place of the plan.
     pub slots: Option<usize>,
-    /// How many callers there may be, where the command line says so in place of the plan.
+    /// How many callers there may be, where this is not left to a plan.
     pub callers: Option<usize>,
-    /// How many bytes all connections may hold if the server stays, of requests that are not answered
-    /// and of answers that are not written.
+    /// How many bytes all connections may hold if the server stays, of requests that are not
+    /// answered and of answers that are not written.
     pub buffers: u64,
     /// Whether each connection's end is noted on standard error.
     pub notes: bool,
@@ -186,24 +222,52 @@ fn port_at<'a>(
 fn count_at<'a>(
     option: NumberOption,
     found: &ArgMatches<'a>,
-) -> Result<Option<usize>, WrongNumber<'a>> {
+) -> Result<Option<usize>, WrongNumber<'a>>
+    ensures { IfOk result (λ count. IfSome count (IsWithin option.least option.most)) }
+{
     match option.read_if_there(found)? {
         Some(count) => Ok(Some(count as usize)),
         None => Ok(None),
     }
 }
 
-fn read<'a>(found: &ArgMatches<'a>) -> Result<ServeLine<'a>, WrongNumber<'a>> {
+/// Where the nodes come from.
+fn ring_at<'a>(found: &ArgMatches<'a>) -> Result<RingSource<'a>, WrongNumber<'a>>
+    ensures { IfOk result IsSource }
+{
+    match found.get_str("plan") {
+        Some(path) => Ok(RingSource::Plan(path)),
+        None => Ok(RingSource::Even(count_at(NODES, found)?.unwrap_or(1))),
+    }
+}
+
+/// How many callers there may be, where this is not left to a plan.
+fn callers_at<'a>(
+    ring: RingSource<'a>,
+    found: &ArgMatches<'a>,
+) -> Result<Option<usize>, WrongNumber<'a>> {
+    let named = count_at(CALLERS, found)?;
+    match ring {
+        RingSource::Even(_) => Ok(Some(named.unwrap_or(CALLERS_WITHOUT_PLAN))),
+        RingSource::Plan(_) => Ok(named),
+    }
+}
+
+fn read<'a>(found: &ArgMatches<'a>) -> Result<ServeLine<'a>, WrongNumber<'a>>
+    ensures { IfOk result (λ line. IsSource line.ring) }
+{
+    let ring = ring_at(found)?;
     Ok(ServeLine {
-        plan: plan_path_of(found),
+        ring,
         port: port_at(PORT, found)?,
         redis: port_at(REDIS, found)?,
         connections: count_at(CONNECTIONS, found)?,
+        ends_with_input: found.get_flag("until-input-ends"),
         idle: IDLE.read_if_there(found)?.unwrap_or(IDLE_SECONDS),
         keep: KEEP.read_if_there(found)?.unwrap_or(KEEP_SECONDS),
         operator: port_at(OPERATOR, found)?,
         slots: count_at(SLOTS, found)?,
-        callers: count_at(CALLERS, found)?,
+        callers: callers_at(ring, found)?,
         buffers: BUFFERS
             .read_if_there(found)?
             .unwrap_or(BUFFER_MEGABYTES)
@@ -216,7 +280,9 @@ fn read<'a>(found: &ArgMatches<'a>) -> Result<ServeLine<'a>, WrongNumber<'a>> {
 pub fn serve_line_of<'a>(
     alloc: Global,
     found: &ArgMatches<'a>,
-) -> Result<ServeLine<'a>, clap::Error> {
+) -> Result<ServeLine<'a>, clap::Error>
+    ensures { IfOk result (λ line. IsSource line.ring) }
+{
     match read(found) {
         Ok(line) => Ok(line),
         Err(wrong) => Err(fault_of(alloc, serve_command(alloc), "chord serve", &wrong)),

@@ -5,6 +5,6 @@ mod asks;
 mod clocks;
 mod copies;
 mod loads;
-mod loopback;
-mod sessions;
+mod results;
+mod serving;
 mod small_server;

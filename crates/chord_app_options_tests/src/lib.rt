@@ -10,6 +10,8 @@ mod checks;
 #[cfg(test)]
 mod plan;
 #[cfg(test)]
+mod quoted;
+#[cfg(test)]
 mod sockets;
 #[cfg(test)]
 mod tests;

@@ -1,9 +1,6 @@
-//! What a server has beside its ring: its listeners, reads, writes, stops and ends.
+//! What a server has beside its ring: its listeners, stops and ends.
 
 mod clients;
-mod closing;
 mod doors;
 mod ends;
-mod patience;
 mod seldom;
-mod stopping;

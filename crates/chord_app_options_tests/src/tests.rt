@@ -1,90 +1,70 @@
 //! The command lines.
 
-use crate::checks::check;
-use crate::tests::lines::{finish_of, has_plan, names_stores_on, prints, prints_usage};
-use chord_app_options::names_stores;
-use chord_app_text::Finish;
-
 mod ask_lines;
 mod command;
-mod faults;
 mod lines;
 mod load_lines;
 mod ring_lines;
+mod saying;
 mod serve_lines;
-mod starts;
 
-/// What is written where the command line has no command.
-const NO_COMMAND: &str =
-    "error: 'chord' requires a subcommand but one was not provided\n  [subcommands: world, run, serve, ask, load, ring, help]\n\nUsage: chord <COMMAND>\n\nFor more information, try '--help'.\n";
+use crate::tests::lines::follow_lines;
+use std::test::Fail;
 
-/// A command line without a command is refused, with this text and status.
+const LINES: &str = "
+# a command line without a command is refused
+text chord > 2 error: 'chord' requires a subcommand but one was not provided|  [subcommands: \
+world, run, serve, ask, load, ring, help]||Usage: chord <COMMAND>||For more information, try \
+'--help'.|
+text chord --version > 0 chord 0.1.0|
+
+# the letters of 1 to 64 stores
+stores t > Yes
+stores tltltltl > Yes
+stores lnct > Yes
+stores {64t} > Yes
+stores \"\" > No
+stores tx > No
+stores T > No
+stores {65t} > No
+usage chord world [OPTIONS] > Set
+fault chord world --stores x > 2 invalid value 'x' for '--stores <WORD>': 1 to 64 of the letters \
+t, l, n and c
+# a line that names no stores has four trees and four lists in turn
+chord world --stores nc > stores nc
+chord world > stores tltltltl
+
+# the path of a plan
+chord run --plan p.toml > plan p.toml
+chord serve --plan p.toml --port 0 --stay > plan p.toml, port 0
+";
+
+/// Which stream gets the text of a line that asks for help or is wrong.
+const STREAMS: &str = "
+# help and the version go to the output alone
+write 4000x4000 chord --version > Ok(Done), output
+write 4000x4000 chord serve --help > Ok(Done), output
+# faults go to the errors alone
+write 4000x4000 chord > Ok(BadCommandLine), errors
+write 4000x4000 chord ask --port 1 insert a > Ok(BadCommandLine), errors
+# nothing is written where memory was refused
+write 4000x4000 memory > Err(OutOfMemory)
+# a stream that fails ends the command, where it was to get the text
+write 4x4000 chord --version > Err(Fault(Write)), output of something else
+write 4000x4 chord --version > Ok(Done), output
+write 4x4000 chord > Ok(BadCommandLine), errors
+write 4000x4 chord > Err(Fault(Write)), errors of something else
+# a port is wanted; help is no fault
+print chord serve > Ok(BadCommandLine)
+print chord serve --help > Ok(Done)
+";
+
 #[test]
-fn a_command_is_wanted(rt: HostRuntime) {
-    check!(&rt; prints(rt.alloc(), "chord", NO_COMMAND) == Some((true, 2)));
+fn lines_without_a_file_of_their_own(rt: HostRuntime) -> Result<(), Fail> {
+    follow_lines(&rt, LINES)
 }
 
 #[test]
-fn the_version(rt: HostRuntime) {
-    let printed = prints(rt.alloc(), "chord --version", "chord 0.1.0\n");
-    check!(&rt; printed == Some((true, 0)));
-}
-
-/// The text and status if the word names no stores.
-#[test]
-fn faults_of_words(rt: HostRuntime) {
-    let line = "chord world --stores x";
-    let fault =
-        "error: invalid value 'x' for '--stores <WORD>': 1 to 64 of the letters t, l, n and c";
-    let printed = prints_usage(rt.alloc(), line, fault, "chord world [OPTIONS]");
-    check!(&rt; printed == Some((true, 2)));
-}
-
-/// A letter for each of 64 stores.
-const SIXTY_FOUR: &str = "tttttttttttttttttttttttttttttttttttttttttttttttttttttttttttttttt";
-
-/// One letter too many.
-const SIXTY_FIVE: &str = "ttttttttttttttttttttttttttttttttttttttttttttttttttttttttttttttttt";
-
-#[test]
-fn words_for_stores(rt: HostRuntime) {
-    for word in ["t", "tltltltl", "lnct", SIXTY_FOUR] {
-        check!(&rt; names_stores(word), word);
-    }
-    for word in ["", "tx", "T", SIXTY_FIVE] {
-        check!(&rt; !names_stores(word), word);
-    }
-}
-
-#[test]
-fn stores_of_a_world(rt: HostRuntime) {
-    let named = names_stores_on(rt.alloc(), "chord world --stores nc", "nc");
-    check!(&rt; named == Some(true), "the stores are those of the line");
-    let named = names_stores_on(rt.alloc(), "chord world", "tltltltl");
-    check!(&rt;
-        named == Some(true),
-        "a line that names none has four trees and four lists in turn"
-    );
-}
-
-#[test]
-fn the_path_of_a_plan(rt: HostRuntime) {
-    for line in [
-        "chord run --plan p.toml",
-        "chord serve --plan p.toml --port 0 --stay",
-    ] {
-        let is_its = has_plan(rt.alloc(), line, "p.toml");
-        check!(&rt; is_its == Some(true), line);
-    }
-}
-
-#[test]
-fn faults_and_help_are_printed(rt: HostRuntime) {
-    let refused = finish_of(&rt, "chord serve");
-    check!(&rt;
-        refused == Some(Ok(Finish::BadCommandLine)),
-        "a plan is wanted"
-    );
-    let help = finish_of(&rt, "chord serve --help");
-    check!(&rt; help == Some(Ok(Finish::Done)), "help is no fault");
+fn streams_of_help_and_faults(rt: HostRuntime) -> Result<(), Fail> {
+    follow_lines(&rt, STREAMS)
 }

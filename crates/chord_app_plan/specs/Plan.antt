@@ -1,5 +1,5 @@
 -- Which plan a document is, and the limits of plans. Source: our own.
-use Rattle.std.specs.Prelude.{◌≡◌, ℕ, ℤ, pos, ◌^◌, ◌<◌, ◌≤◌, List, [], ◌∷◌, length, ◌⊎◌, Option, Some, None, option_and_then, codes, IsUtf8}
+use Rattle.std.specs.Prelude.{◌≡◌, ℕ, zero, suc, ℤ, pos, ◌++◌, ◌*◌, ◌/◌, ◌^◌, ◌<◌, ◌≤◌, List, [], ◌∷◌, length, ◌⊎◌, Option, Some, None, option_and_then, codes, IsUtf8}
 use Rattle.std.specs.List.{All}
 use Rattle.std.specs.Str.Parse.{digits_value, AllDigits}
 use Rattle.toml.specs.Data.{Data, Items, no_items, item, Members, as_array, as_integer, as_str, as_table, get_member}
@@ -133,9 +133,20 @@ pub record IsPlan (p : Plan) : Type 0 where
   pub nodes : length p.nodes.items ≤ p.settings.slots
   pub asks : All (IsAskOf p.settings.callers (length p.nodes.items)) p.asks.items
 
+-- the identifier of a node, from 0, of as many that divide the circle evenly: its upper half is the
+-- number's share of 2^64, its lower half is 0
+abbrev pub even_id : ℕ → ℕ → ℕ
+even_id count number = number * (2 ^ 64 / count) * 2 ^ 64
+
+-- the first nodes of as many that divide the circle evenly, each with a tree
+unfoldable pub even_nodes : ℕ → ℕ → List PlanNode
+even_nodes count zero = []
+even_nodes count (suc number) = even_nodes count number
+    ++ record { id = record { number = even_id count number }; store = store.Tree } ∷ []
+
 -- no file was read: the system did not give it, or there was no memory
 abbrev pub IsNotRead : PlanFault → Type 0
-IsNotRead (fault.Unread path reason) = Unit {0}
+IsNotRead (fault.Unread reason) = Unit {0}
 IsNotRead fault.TooLong = ⊥
 IsNotRead (fault.NoToml line why) = ⊥
 IsNotRead (fault.Entry table key why) = ⊥

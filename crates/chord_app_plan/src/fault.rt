@@ -1,4 +1,4 @@
-//! Why a plan is refused.
+//! Why a plan is refused, and where it breaks a rule.
 
 use chord_map::RequestFault;
 use std::alloc::{AllocError, AllocFailed, Global};
@@ -67,13 +67,11 @@ impl EntryFault {
     }
 }
 
+/// Why a plan is refused. Who prints it says which file it is about.
 #[derive(Debug, Drop)]
 pub enum PlanFault {
     /// The file of the plan cannot be read, for a reason of the system.
-    Unread {
-        path: String,
-        reason: ErrorKind,
-    },
+    Unread(ErrorKind),
     /// The plan has more than 1,048,576 bytes.
     TooLong,
     /// The plan is no TOML; the fault is on this line, from 1.
@@ -93,14 +91,11 @@ pub enum PlanFault {
 impl fmt::Display for PlanFault {
     fn fmt<W: fmt::Write>(&self, f: &mut fmt::Formatter<W>) -> fmt::Result {
         match self {
-            PlanFault::Unread { path, reason } => write!(f, "fault plan\n{path}: {reason}"),
-            PlanFault::TooLong => write!(f, "fault plan\nmore than 1048576 bytes"),
-            PlanFault::NoToml { line, fault } => {
-                write!(f, "fault plan\nline {line}: {}", fault.message())
-            }
-            PlanFault::Entry { table, key, fault } => {
-                write!(f, "fault plan\n{table}{key}: {fault}")
-            }
+            PlanFault::Unread(ErrorKind::NotFound) => write!(f, "no such file"),
+            PlanFault::Unread(reason) => write!(f, "{reason}"),
+            PlanFault::TooLong => write!(f, "more than 1048576 bytes"),
+            PlanFault::NoToml { line, fault } => { write!(f, "line {line}: {}", fault.message()) }
+            PlanFault::Entry { table, key, fault } => { write!(f, "{table}{key}: {fault}") }
             PlanFault::OutOfMemory => write!(f, "out of memory"),
         }
     }

@@ -20,20 +20,17 @@ fn read_bytes<R: Read + Drop>(alloc: Global, reader: R) -> io::Result<Vec<u8>>
 }
 
 /// The fault of a file that the system does not give.
-fn unread(alloc: Global, path: &str, reason: io::ErrorKind) -> PlanFault
+fn unread(reason: io::ErrorKind) -> PlanFault
     ensures { IsNotRead result }
 {
     if reason == io::ErrorKind::OutOfMemory {
         return PlanFault::OutOfMemory;
     }
-    match String::from_str(alloc, path) {
-        Ok(path) => PlanFault::Unread { path, reason },
-        Err(_) => PlanFault::OutOfMemory,
-    }
+    PlanFault::Unread(reason)
 }
 
-/// The plan in what was read of a file. Faults of reading name this path.
-fn plan_in(alloc: Global, path: &str, read: io::Result<Vec<u8>>) -> Result<Plan, PlanFault>
+/// The plan in what was read of a file.
+fn plan_in(alloc: Global, read: io::Result<Vec<u8>>) -> Result<Plan, PlanFault>
     ensures limits { IfOk result IsPlan }
     ensures value { IfOk read (λ bytes. IfOk result (IsPlanOf bytes.items)) }
     ensures accepts { IfOk read (λ bytes. (plan : Plan) → IsPlanOf bytes.items plan → IsPlan plan → length bytes.items ≤ PLAN_BYTES → IsOkUnless result PlanFault.OutOfMemory) }
@@ -42,12 +39,12 @@ fn plan_in(alloc: Global, path: &str, read: io::Result<Vec<u8>>) -> Result<Plan,
 {
     match read {
         Ok(bytes) => Plan::parse(alloc, bytes.as_slice()),
-        Err(error) => Err(unread(alloc, path, error.kind())),
+        Err(error) => Err(unread(error.kind())),
     }
 }
 
-/// The plan that is all that the reader gives. Faults of reading name this path.
-pub fn plan_from<R: Read + Drop>(alloc: Global, path: &str, reader: R) -> Result<Plan, PlanFault>
+/// The plan that is all that the reader gives.
+pub fn plan_from<R: Read + Drop>(alloc: Global, reader: R) -> Result<Plan, PlanFault>
     ensures value { IfOk result (λ plan. IfSome (R.remaining reader) (λ all. IsPlanOf all plan)) }
     ensures limits { IfOk result IsPlan }
 
@@ -55,7 +52,7 @@ pub fn plan_from<R: Read + Drop>(alloc: Global, path: &str, reader: R) -> Result
     ensures accepts { IfSome (R.remaining reader) (λ all. (plan : Plan) → IsPlanOf all plan → IsPlan plan → length all ≤ PLAN_BYTES → IfErr result IsNotRead) }
     ensures long { IfSome (R.remaining reader) (λ all. PLAN_BYTES < length all → IsErrAnd result IsTooLongOrNotRead) }
 {
-    plan_in(alloc, path, read_bytes(alloc, reader))
+    plan_in(alloc, read_bytes(alloc, reader))
 }
 
 /// The plan in a file.
@@ -63,7 +60,7 @@ pub fn read_plan(rt: &impl Files, alloc: Global, path: &str) -> Result<Plan, Pla
     ensures { IfOk result IsPlan }
 {
     match fs::open(rt, path) {
-        Ok(file) => plan_from(alloc, path, file),
-        Err(error) => Err(unread(alloc, path, error.kind())),
+        Ok(file) => plan_from(alloc, file),
+        Err(error) => Err(unread(error.kind())),
     }
 }

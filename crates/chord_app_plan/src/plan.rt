@@ -5,7 +5,7 @@ ghost use Rattle.toml.specs.Errors.{IsMemory};
 ghost use Rattle.chord_app_plan.specs.declared.plan.Plan.{Plan};
 ghost use Rattle.chord_app_plan.specs.declared.ask.PlanAsk.{PlanAsk};
 ghost use Rattle.chord_app_plan.specs.declared.node.PlanNode.{PlanNode};
-ghost use Rattle.chord_app_plan.specs.Plan.{AskIs, AreListed, IsAskOf, IsPlan, IsPlanOf, NodeIs, members_of, settings_with};
+ghost use Rattle.chord_app_plan.specs.Plan.{AskIs, AreListed, IsAskOf, IsPlan, IsPlanOf, NodeIs, even_id, even_nodes, members_of, settings_with};
 
 use crate::ask::PlanAsk;
 use crate::entries::Entries;
@@ -13,11 +13,21 @@ use crate::fault::{EntryFault, PlanFault, TableName};
 use crate::node::PlanNode;
 use crate::settings::read_settings;
 use crate::store_kind::StoreKind;
+use chord_ident::Id;
 use chord_live_types::Settings;
-use std::alloc::Global;
+use std::alloc::{AllocError, Global};
 
 /// The most bytes of a plan.
 pub const PLAN_BYTES: usize = 1_048_576;
+
+/// The settings of a plan without a file.
+const EVEN_SETTINGS: Settings = Settings {
+    slots: 64,
+    callers: 64,
+    successors: 4,
+    tries: 20,
+    wait_ms: 100,
+};
 
 #[derive(Debug, Drop)]
 pub struct Plan {
@@ -96,7 +106,50 @@ fn read_asks(
     Ok(asks)
 }
 
+/// The identifier of a node of this number, from 0, of as many that divide the circle evenly.
+fn even_id(count: usize, number: usize) -> Id
+    requires some { number < count }
+    requires most { count ≤ 64 }
+    ensures { result.number ≡ even_id count number }
+{
+    let share = (1u128 << 64) / count as u128;
+    Id::new((number as u128 * share) << 64)
+}
+
+/// This many nodes, which divide the circle evenly.
+#[tactic(auto, unfolding(crate::specs::Plan::even_nodes))]
+fn even_nodes(alloc: Global, count: usize) -> Result<Vec<PlanNode>, AllocError>
+    requires { count ≤ 64 }
+    ensures value { IfOk result (λ nodes. nodes.items ≡ even_nodes count count) }
+    ensures count { IfOk result (λ nodes. vec_len nodes ≡ count) }
+{
+    let mut nodes = Vec::new(alloc);
+    for number in 0..count {
+        let id = even_id(count, number);
+        nodes.push(PlanNode {
+            id,
+            store: StoreKind::Tree,
+        })?;
+    }
+    Ok(nodes)
+}
+
 impl Plan {
+    /// A plan without a file: this many nodes, 64 at most, which divide the circle evenly.
+    pub fn even(alloc: Global, nodes: usize) -> Result<Plan, AllocError>
+        requires some { 1 ≤ nodes }
+        requires most { nodes ≤ 64 }
+        ensures nodes { IfOk result (λ plan. plan.nodes.items ≡ even_nodes nodes nodes) }
+        ensures limits { IfOk result IsPlan }
+    {
+        Ok(Plan {
+            settings: EVEN_SETTINGS,
+            spare: StoreKind::Tree,
+            nodes: even_nodes(alloc, nodes)?,
+            asks: Vec::new(alloc),
+        })
+    }
+
     /// The plan in a TOML document in UTF-8.
     pub fn parse(alloc: Global, document: &[u8]) -> Result<Plan, PlanFault>
         ensures value { IfOk result (IsPlanOf document.now) }

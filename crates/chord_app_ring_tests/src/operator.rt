@@ -3,6 +3,7 @@
 mod answers;
 mod calls;
 pub mod devices;
+mod links;
 pub mod operators;
 mod refusals;
 pub mod sights;

@@ -1,9 +1,9 @@
 //! Running rings of a plan's nodes: the command `run`, which does what the plan asks, and the
 //! command `serve`, whose clients ask over loopback.
 //!
-//! [`run`] and [`serve`] end by themselves; [`stay`] serves until its input ends. A ring that served
-//! ends by a look at all its nodes and callers ([`WholeRing`]). Each command takes a
-//! store for each node of the plan, and `stay` spare ones for nodes that join while it serves.
+//! [`run`] and [`serve`] end by themselves; [`stay`] serves until it is stopped. A ring that
+//! served ends by a look at all its nodes and callers ([`WholeRing`]). Each command takes a store
+//! for each node of the plan, and `stay` spare ones for nodes that join while it serves.
 #![tactic(auto)]
 
 mod gap;

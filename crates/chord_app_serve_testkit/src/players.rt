@@ -13,7 +13,8 @@ use std::net::{Net, TcpListener, TcpStream};
 use std::thread;
 use std::time::{Clock, Duration};
 
-/// What a server allows its clients: no test leaves them idle for as long, or has them hold as much.
+/// What a server allows its clients: no test leaves them idle for as long, or has them hold as
+/// much.
 pub const WAITS: ClientLimits = ClientLimits {
     idle: 300,
     keep: 600,

@@ -151,7 +151,7 @@ fn serve_on<'a, R: Host, L: Log + Sync>(
         Ending::Input(input, seconds) => {
             let spares = stores(alloc, size.joining, size.room)?;
             let all = ServerStores { nodes, spares };
-            stay(rt, &setup, all, seconds, input, &mut written)?.callers <= settings.callers
+            stay(rt, &setup, all, seconds, Some(input), &mut written)?.callers <= settings.callers
         }
     };
     if !has_its_callers {

@@ -1,4 +1,3 @@
 pub mod Ended
-pub mod Patience
 pub mod Until
 pub mod Doors

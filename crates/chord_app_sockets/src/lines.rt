@@ -27,8 +27,8 @@ struct Unwritten {
     is_over: bool,
 }
 
-/// The lines of connections. Whoever tells one does not wait for its writing, which is the work of a
-/// thread ([`Lines::write_on`]). After one that failed no more are written.
+/// The lines of connections. Whoever tells one does not wait for its writing, which is the work of
+/// a thread ([`Lines::write_on`]). After one that failed no more are written.
 #[derive(Drop)]
 pub struct Lines<W> {
     alloc: Global,
@@ -131,7 +131,8 @@ impl<W: Write> Lines<W> {
         Ok(())
     }
 
-    /// Has how a connection ended written soon, or keeps it for the end. Says false if writing failed.
+    /// Has how a connection ended written soon, or keeps it for the end. Says false if writing
+    /// failed.
     pub fn tell(&self, rt: &impl Wait, number: u64, ended: &Ended) -> bool {
         let mut unwritten = self.unwritten.lock(rt);
         if unwritten.failed.is_some() {

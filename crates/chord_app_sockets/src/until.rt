@@ -22,8 +22,8 @@ const BUFFER_BYTES: u64 = 268_435_456;
 pub struct ClientLimits {
     /// For how many seconds one may be idle.
     pub idle: u64,
-    /// For how many seconds its session is kept that has no connection, though its caller is needed.
-    /// For 0 none is kept.
+    /// For how many seconds its session is kept that has no connection, though its caller is
+    /// needed. For 0 none is kept.
     pub keep: u64,
     /// How many bytes all connections may hold, of requests that are not answered and of answers
     /// that are not written.

@@ -87,8 +87,8 @@ impl<A> ClientSession<A> {
 }
 
 impl<A: Asker> ClientSession<A> {
-    /// Lets a request in, and asks what it calls for. None if no question is to be asked: what is to
-    /// be written for it is added to the output.
+    /// Lets a request in, and asks what it calls for. None if no question is to be asked: what is
+    /// to be written for it is added to the output.
     pub(crate) fn begin(
         &mut self,
         alloc: Global,

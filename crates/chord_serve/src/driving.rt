@@ -157,11 +157,11 @@ fn take_turns<P: Protocol, R: Read, W: Write>(
 }
 
 /// Answers the requests that the protocol took in before, and then those from the reader, until the
-/// input ends, a request ends the connection, a call fails, or `turns` reads of this size were made;
-/// the contract says how many bytes these may take, and tests count the reads. No request waits: one
-/// without an answer is answered as such. The answers to the requests of one read are written
-/// together, or whenever they are more than 65,536 bytes. They are also written if a request ends
-/// the connection.
+/// input ends, a request ends the connection, a call fails, or `turns` reads of this size were
+/// made; the contract says how many bytes these may take, and tests count the reads. No request
+/// waits: one without an answer is answered as such. The answers to the requests of one read are
+/// written together, or whenever they are more than 65,536 bytes. They are also written if a
+/// request ends the connection.
 pub fn drive<P: Protocol, R: Read, W: Write>(
     alloc: Global,
     protocol: &mut P,

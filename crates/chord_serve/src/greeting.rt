@@ -4,8 +4,8 @@ ghost use Rattle.chord_serve.specs.Greeting.{LooksAt};
 use crate::served::Served;
 use chord_wire::{FaultCode, Opening, SessionFrame, SessionFrames};
 
-/// The open that the first frame of a connection is, if it is one. It is taken off then, and another
-/// one is not. None where more bytes must come.
+/// The open that the first frame of a connection is, if it is one. It is taken off then, and
+/// another one is not. None where more bytes must come.
 pub fn first_opening(frames: &mut SessionFrames) -> Result<Option<Option<Opening>>, Served>
     ensures { LooksAt result frames.old frames.new }
 {

@@ -5,12 +5,13 @@
 //! fault, or, for a number that was answered before, the same frame again. Where nothing else is to
 //! be done meanwhile, [`drive`] reads and writes for a protocol, and [`serve`] for one in frames.
 //! A session may outlive its connection: [`first_opening`] says how a connection begins, a
-//! [`FrameProtocol`] speaks for a [`ClientSession`] and leaves it [`Parted`], and a [`SessionTable`]
-//! has the sessions of a server: those that connections have, and those without one, the
-//! [`KeptSessions`]. [`Served`] says why a connection ended. [`tell_callers_spent`] is what a client is told whose
-//! connection is not served. The other end is [`call`], which sends one request and waits, or a
-//! [`WireClient`], which has up to 16 requests in flight, and whose session may go on over another
-//! connection. [`laws`] says that the output does not depend on how the input was cut.
+//! [`FrameProtocol`] speaks for a [`ClientSession`] and leaves it [`Parted`], and a
+//! [`SessionTable`] has the sessions of a server: those that connections have, and those without
+//! one, the [`KeptSessions`]. [`Served`] says why a connection ended. [`tell_callers_spent`] is
+//! what a client is told whose connection is not served. The other end is [`call`], which sends one
+//! request and waits, or a [`WireClient`], which has up to 16 requests in flight, and whose session
+//! may go on over another connection. [`laws`] says that the output does not depend on how the
+//! input was cut.
 #![tactic(auto)]
 
 mod asker;

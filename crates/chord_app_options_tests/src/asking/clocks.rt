@@ -1,14 +1,14 @@
 //! How long a load took, by a clock that its server sets.
 
-use crate::asking::loads::load_of;
-use crate::asking::loopback::bound;
-use crate::asking::sessions::loads_and_ends;
+use crate::asking::serving::{bound, client_of, end_waiting, load_of};
 use crate::checks::check;
-use chord_app_ask::{Kind, Load, Tokens};
+use chord_app_ask::{ClientOptions, Kind, Load, Tokens, run_load};
 use chord_app_text::Finish;
+use chord_testkit::Text;
 use std::alloc::Global;
 use std::io::{self, Read, Write};
 use std::net::{Net, SocketAddr, TcpListener, TcpStream};
+use std::str::from_utf8;
 use std::sync::Wait;
 use std::sync::atomic::{AtomicU64, Ordering};
 use std::thread;
@@ -98,62 +98,54 @@ fn take_turns(listener: TcpListener, clock: &AtomicU64, times: &Times) -> io::Re
     Ok(())
 }
 
-/// The times of a load from 500 to 2,000. The first retrieve took from 1,000 to 1,200, and the
-/// second from 1,200 to 1,700. It had waited longest for its first reply.
-const EVEN: Times = [1_000, 1_200, 1_700, 2_000];
-
-/// The table of that load.
-const TABLE: &str = concat!(
-    "requests                2\n",
-    "milliseconds         1500\n",
-    "still                 700\n",
-    "a second                1\n",
-    "p50                204799 us\n",
-    "p90                507903 us\n",
-    "p99                507903 us\n",
-    "p99.9              507903 us\n",
-    "faults                  0\n",
-    "empty sets              2\n",
-    "resumed                 0\n",
-);
-
-/// Loads that stand still for a while, and how their tables begin: between two replies, and behind
-/// the last one.
-const STILL: [(Times, &str); 2] = [
+/// The times of loads that begin at 500, and the table of each, on one line. A load lasts until its
+/// connection has ended, and tells the longest time without a reply.
+const LOADS: &[(Times, &str)] = &[
+    // The first retrieve took from 1,000 to 1,200, and the second to 1,700. The load had waited
+    // longest for its first reply.
+    (
+        [1_000, 1_200, 1_700, 2_000],
+        "requests 2|milliseconds 1500|still 700|a second 1|p50 204799 us|p90 507903 us|p99 507903 us|p99.9 507903 us|faults 0|empty sets 2|resumed 0|",
+    ),
+    // It stands still between two replies.
     (
         [600, 700, 5_700, 6_000],
-        concat!(
-            "requests                2\n",
-            "milliseconds         5500\n",
-            "still                5000\n",
-            "a second                0\n",
-        ),
+        "requests 2|milliseconds 5500|still 5000|a second 0|",
     ),
+    // It stands still behind the last one.
     (
         [500, 501, 502, 1_500],
-        concat!(
-            "requests                2\n",
-            "milliseconds         1000\n",
-            "still                 998\n",
-            "a second                2\n",
-        ),
+        "requests 2|milliseconds 1000|still 998|a second 2|",
     ),
 ];
 
-/// How a load of two retrieves ended at that server, and whether its table begins so.
+/// The lines of a table, without the spaces between a name and its number.
+fn on_one_line(table: &[u8]) -> Text {
+    let mut text = Text::of("");
+    for line in from_utf8(table).unwrap_or("?").lines() {
+        let (name, number) = line.split_at_checked(13).unwrap_or((line, ""));
+        text = text.and_str(name.trim(), 16).and_str(" ", 1);
+        text = text.and_str(number.trim(), 24).and_str("|", 1);
+    }
+    text
+}
+
+/// How a load of two retrieves ended at that server, and its table.
 fn loaded<R: Threads + Wait + Clock + Net<Listener = TcpListener, Stream = TcpStream> + Sync>(
     rt: &R,
     alloc: Global,
     tokens: Tokens,
     times: &Times,
-    begins: &str,
-) -> Option<(Result<Finish, Finish>, bool)> {
+) -> Option<(Result<Finish, Finish>, Text)> {
     let (listener, port) = bound(rt)?;
+    let client = ClientOptions {
+        port,
+        ..client_of(2, 1, 3, Some(tokens))
+    };
     let load = Load {
-        connections: 1,
         in_flight: 1,
-        tokens: Some(tokens),
-        ..load_of(port, Kind::Retrieve, 2)
+        drops: None,
+        ..load_of(client, Kind::Retrieve, 2)
     };
     let shows = AtomicU64::new(BEGINS);
     let host = SetClock {
@@ -164,28 +156,25 @@ fn loaded<R: Threads + Wait + Clock + Net<Listener = TcpListener, Stream = TcpSt
     let (served, ended) = thread::join(
         rt,
         || take_turns(listener, &shows, times),
-        || loads_and_ends(&host, alloc, load, &mut table, 1),
+        || {
+            let ended = run_load(&host, alloc, load, None::<Vec<u8>>, &mut table);
+            end_waiting(&host, port, 1);
+            ended
+        },
     );
-    let is_written = table.as_slice().starts_with(begins.as_bytes());
+    let shown = on_one_line(&table);
     drop(table);
     served.ok()?;
-    Some((ended, is_written))
+    Some((ended, shown))
 }
 
-/// A load lasts until its connection has ended, and tells the longest time without a reply.
 #[test]
-fn a_load_lasts_until_its_connection_ended(rt: HostRuntime) {
+fn loads_by_a_set_clock(rt: HostRuntime) {
     let tokens = Tokens::new(&rt).expect(&rt, "random bytes");
-    let ended = loaded(&rt, rt.alloc(), tokens, &EVEN, TABLE);
-    assert!(rt; ended == Some((Ok(Finish::Done), true)), "{ended:?}");
-}
-
-/// A time without a reply counts between two replies, and behind the last one.
-#[test]
-fn a_load_that_stands_still(rt: HostRuntime) {
-    let tokens = Tokens::new(&rt).expect(&rt, "random bytes");
-    for (times, begins) in &STILL {
-        let ended = loaded(&rt, rt.alloc(), tokens, times, begins);
-        check!(&rt; ended == Some((Ok(Finish::Done), true)), begins);
+    for (times, wanted) in LOADS {
+        let loaded = loaded(&rt, rt.alloc(), tokens, times);
+        let (ended, table) = loaded.expect(&rt, "a load");
+        check!(&rt; ended == Ok(Finish::Done), wanted);
+        check!(&rt; table.as_str().starts_with(*wanted), wanted);
     }
 }

@@ -1,213 +1,73 @@
 //! Copies that are asked, over loopback: `chord ask --quiet`, which `chord ring restore` is too.
 
-use crate::asking::loopback::{Asked, bound, end_waiting};
-use crate::asking::small_server::{SmallServer, Visit};
+use crate::asking::serving::follow_clients;
 use crate::checks::check;
-use chord_app_ask::{ClientOptions, CopyRead, Tokens, ask_copy, read_line};
+use chord_app_ask::{CopyRead, read_line};
 use chord_app_operator::{Pair, pair_lines};
-use chord_app_text::{Fault, Finish, Undone, WordFault};
+use chord_app_text::Finish;
 use chord_map::Request;
 use std::alloc::{AllocError, Global};
-use std::net::{Net, TcpListener, TcpStream};
-use std::thread;
-use std::thread::Threads;
-use std::time::Clock;
+use std::test::Fail;
 
-/// Asks this copy, which is to write this line, and ends a server that still waits.
-fn asks<R: Net<Stream = TcpStream> + Clock>(
-    rt: &R,
-    alloc: Global,
-    client_options: ClientOptions,
-    (copy, wanted): (&str, &str),
-    connections: usize,
-) -> Asked {
-    let mut reader = copy.as_bytes();
-    let mut written: Vec<u8> = Vec::new(alloc);
-    let finish = ask_copy(rt, alloc, client_options, &mut reader, &mut written);
-    let is_written = written.as_slice() == wanted.as_bytes();
-    drop(written);
-    end_waiting(rt, client_options.port, connections);
-    (finish, is_written)
-}
+const COPIES: &str = "
+client 2 16 3 session > Set
+at serve 0 > Set
+copy # pairs 0| > Done: restored 0|; kept 0, closed 1, asked 0
+copy insert x:61 x:78|insert x:61 x:-|# pairs 2| > Done: restored 2|; kept 0, closed 1, asked 2
+# a pair that is there already stays, and other lines that begin so are passed over
+copy # made today|insert a x|insert a x|# pairs 2| > Done: restored 2|; kept 0, closed 1, asked 2
+# there may be more requests than are in flight
+copy insert a 0|insert a 1|insert a 2|insert a 3|insert a 4|insert a 5|insert a 6|insert a 7|insert a 8|\
+insert a 9|insert a 10|insert a 11|insert a 12|insert a 13|insert a 14|insert a 15|insert a 16|# pairs 17| \
+> Done: restored 17|; kept 0, closed 1, asked 17
+# the end is missing, has another number, is cut, or is not the last line
+copy \"\" > Err(Cut); kept 0, closed 1, asked 0
+copy insert a x| > Err(Cut); kept 0, closed 1, asked 1
+copy insert a x|# pairs 2| > Err(Cut); kept 0, closed 1, asked 1
+copy insert a x|# pairs 0| > Err(Cut); kept 0, closed 1, asked 1
+copy insert a x|# pairs 01| > Err(Cut); kept 0, closed 1, asked 1
+copy insert a x|# pairs 1 > Err(Cut); kept 0, closed 1, asked 1
+copy insert a x|#pairs 1| > Err(Cut); kept 0, closed 1, asked 1
+copy insert a x|# pairs 1|insert a y| > Err(Cut); kept 0, closed 1, asked 2
+copy insert a x|# pairs 1|#| > Err(Cut); kept 0, closed 1, asked 1
+# a line without an end may be cut too, so it is not asked
+copy insert a x|insert a y > Err(Cut); kept 0, closed 1, asked 1
+# a line that is no request ends it, behind the lines before
+copy insert a x|insert a x:7|insert a z|# pairs 3| > Err(Request { line: 2, why: ValueDigits }); \
+kept 0, closed 1, asked 1
+copy insert a x||# pairs 1| > Err(Request { line: 2, why: NoOperation }); kept 0, closed 1, asked 1
+# each request acts once, over however many connections
+at serve 45 serve 0 > Set
+copy insert a x|insert a y|insert a z|# pairs 3| > Done: restored 3|; kept 0, closed 1, asked 3
+";
 
-/// The same at a server that does so with its connections. Gives also how many requests the session
-/// was asked, if it was closed.
-fn asks_server<R: Threads + Clock + Net<Listener = TcpListener, Stream = TcpStream> + Sync>(
-    rt: &R,
-    alloc: Global,
-    tokens: Tokens,
-    lines: (&str, &str),
-    visits: &[Visit<'_>],
-) -> Option<(Asked, usize)> {
-    let (listener, port) = bound(rt)?;
-    let client_options = ClientOptions {
-        port,
-        version: 2,
-        window: 16,
-        tries: 3,
-        tokens: Some(tokens),
-    };
-    let mut server = SmallServer::new(alloc);
-    let (served, asked) = thread::join(
-        rt,
-        || server.run(listener, visits),
-        || asks(rt, alloc, client_options, lines, visits.len()),
-    );
-    let count = server.asked;
-    drop(server);
-    served.ok()?;
-    Some((asked, count))
-}
-
-/// Where a copy ends.
-const CUT: Result<Finish, Finish> = Err(Finish::Fault(Fault::Cut));
-
-/// Copies, what is written of each, how it ends, and how many requests are asked.
-const COPIES: &[(&str, &str, Result<Finish, Finish>, usize)] = &[
-    ("# pairs 0\n", "restored 0\n", Ok(Finish::Done), 0),
-    (
-        "insert x:61 x:78\ninsert x:61 x:-\n# pairs 2\n",
-        "restored 2\n",
-        Ok(Finish::Done),
-        2,
-    ),
-    // A pair that is there already stays, and other lines that begin so are passed over.
-    (
-        "# made today\ninsert a x\ninsert a x\n# pairs 2\n",
-        "restored 2\n",
-        Ok(Finish::Done),
-        2,
-    ),
-    (
-        "insert a 0\ninsert a 1\ninsert a 2\ninsert a 3\ninsert a 4\ninsert a 5\ninsert a 6\ninsert a 7\ninsert a 8\ninsert a 9\ninsert a 10\ninsert a 11\ninsert a 12\ninsert a 13\ninsert a 14\ninsert a 15\ninsert a 16\n# pairs 17\n",
-        "restored 17\n",
-        Ok(Finish::Done),
-        17,
-    ),
-    // The end is missing, has another number, is cut, or is not the last line.
-    ("", "", CUT, 0),
-    ("insert a x\n", "", CUT, 1),
-    ("insert a x\n# pairs 2\n", "", CUT, 1),
-    ("insert a x\n# pairs 0\n", "", CUT, 1),
-    ("insert a x\n# pairs 01\n", "", CUT, 1),
-    ("insert a x\n# pairs 1", "", CUT, 1),
-    ("insert a x\n#pairs 1\n", "", CUT, 1),
-    ("insert a x\n# pairs 1\ninsert a y\n", "", CUT, 2),
-    ("insert a x\n# pairs 1\n#\n", "", CUT, 1),
-    // A line without an end may be cut too, so it is not asked.
-    ("insert a x\ninsert a y", "", CUT, 1),
-    // A line that is no request ends it, behind the lines before.
-    (
-        "insert a x\ninsert a x:7\ninsert a z\n# pairs 3\n",
-        "",
-        Err(Finish::Fault(Fault::Request {
-            line: 2,
-            why: WordFault::ValueDigits,
-        })),
-        1,
-    ),
-    (
-        "insert a x\n\n# pairs 1\n",
-        "",
-        Err(Finish::Fault(Fault::Request {
-            line: 2,
-            why: WordFault::NoOperation,
-        })),
-        1,
-    ),
-];
+/// Answers of a server without sessions to the two inserts of a copy: the first is added, the second
+/// is refused, or is not answered.
+const UNDONE: &str = "
+client 2 2 1 > Set
+# a copy ends at the first line that is not done, and says why
+at answer 0000000b01810000000000000001010000000b0181000000000000000202 > Set
+copy # two|insert a x|insert a y|# pairs 2| > Err(Undone { line: 3, why: SetFull })
+at answer 0000000b01810000000000000001010000000b01ff00000000000000020a > Set
+copy # two|insert a x|insert a y|# pairs 2| > Err(Undone { line: 3, why: Full })
+at answer 0000000b01810000000000000001010000000b01ff00000000000000020b > Set
+copy # two|insert a x|insert a y|# pairs 2| > Err(Undone { line: 3, why: NoAnswer })
+at answer 0000000b01810000000000000001010000000b01ff000000000000000209 > Set
+copy # two|insert a x|insert a y|# pairs 2| > Err(Undone { line: 3, why: Code(9) })
+at answer 0000000b01810000000000000001010000000b01ff00000000000000000f > Set
+copy # two|insert a x|insert a y|# pairs 2| > Err(Undone { line: 3, why: CallersSpent })
+at answer 0000000b01810000000000000001010000000b01 > Set
+copy # two|insert a x|insert a y|# pairs 2| > Err(Undone { line: 3, why: Lost })
+";
 
 #[test]
-fn copies_are_asked(rt: HostRuntime) {
-    let tokens = Tokens::new(&rt).expect(&rt, "random bytes");
-    for (copy, wanted, finish, count) in COPIES {
-        let visits = [Visit::Serve(usize::MAX)];
-        let told = asks_server(&rt, rt.alloc(), tokens, (copy, wanted), &visits);
-        let is_its = told == Some(((*finish, true), *count));
-        assert!(rt; is_its, "{copy}{told:?}");
-    }
-}
-
-/// Each request acts once, over however many connections.
-#[test]
-fn a_copy_goes_on_over_another_connection(rt: HostRuntime) {
-    let tokens = Tokens::new(&rt).expect(&rt, "random bytes");
-    let copy = "insert a x\ninsert a y\ninsert a z\n# pairs 3\n";
-    let visits = [Visit::Serve(45), Visit::Serve(usize::MAX)];
-    let told = asks_server(&rt, rt.alloc(), tokens, (copy, "restored 3\n"), &visits);
-    check!(&rt; told == Some(((Ok(Finish::Done), true), 3)));
-}
-
-/// Answers of a server without sessions to the two inserts of a copy: the second is refused, or
-/// does not come.
-const UNDONE: &[(&[u8], Undone)] = &[
-    (
-        b"\x00\x00\x00\x0b\x01\x81\x00\x00\x00\x00\x00\x00\x00\x02\x02",
-        Undone::SetFull,
-    ),
-    (
-        b"\x00\x00\x00\x0b\x01\xff\x00\x00\x00\x00\x00\x00\x00\x02\x0a",
-        Undone::Full,
-    ),
-    (
-        b"\x00\x00\x00\x0b\x01\xff\x00\x00\x00\x00\x00\x00\x00\x02\x0b",
-        Undone::NoAnswer,
-    ),
-    (
-        b"\x00\x00\x00\x0b\x01\xff\x00\x00\x00\x00\x00\x00\x00\x02\x09",
-        Undone::Code(9),
-    ),
-    (
-        b"\x00\x00\x00\x0b\x01\xff\x00\x00\x00\x00\x00\x00\x00\x00\x0f",
-        Undone::CallersSpent,
-    ),
-    (b"\x00\x00\x00\x0b\x01", Undone::Lost),
-];
-
-/// The answer to the first: it is added.
-const ADDED: &[u8] = b"\x00\x00\x00\x0b\x01\x81\x00\x00\x00\x00\x00\x00\x00\x01\x01";
-
-/// How a copy of two inserts ends with these answers, of which each is asked for once.
-fn ends_with<R: Threads + Clock + Net<Listener = TcpListener, Stream = TcpStream> + Sync>(
-    rt: &R,
-    alloc: Global,
-    answer: &[u8],
-) -> Option<Asked> {
-    let (listener, port) = bound(rt)?;
-    let client_options = ClientOptions {
-        port,
-        version: 2,
-        window: 2,
-        tries: 1,
-        tokens: None,
-    };
-    let answers = [ADDED, answer].concat(alloc).ok()?;
-    let copy = "# two\ninsert a x\ninsert a y\n# pairs 2\n";
-    let mut server = SmallServer::new(alloc);
-    let visits = [Visit::Answer(answers.as_slice())];
-    let (served, asked) = thread::join(
-        rt,
-        || server.run(listener, &visits),
-        || asks(rt, alloc, client_options, (copy, ""), 1),
-    );
-    drop(server);
-    drop(answers);
-    served.ok()?;
-    Some(asked)
-}
-
-/// A copy ends at the first line that is not done, and says why.
-#[test]
-fn a_line_that_is_not_done_ends_a_copy(rt: HostRuntime) {
-    for (answer, why) in UNDONE {
-        let asked = ends_with(&rt, rt.alloc(), answer);
-        let wanted = Err(Finish::Fault(Fault::Undone { line: 3, why: *why }));
-        assert!(rt; asked == Some((wanted, true)), "{why}: {asked:?}");
-    }
+fn copies_are_asked(rt: HostRuntime) -> Result<(), Fail> {
+    follow_clients(&rt, &rt, COPIES)?;
+    follow_clients(&rt, &rt, UNDONE)
 }
 
 #[test]
-fn what_was_read_of_a_copy(rt: HostRuntime) -> Result<(), std::test::Fail> {
+fn what_was_read_of_a_copy(rt: HostRuntime) -> Result<(), Fail> {
     let one = CopyRead::NONE.with_request();
     let whole = CopyRead {
         requests: 1,
@@ -268,7 +128,7 @@ fn is_its_insert(alloc: Global, pair: Pair) -> Result<bool, AllocError> {
 
 /// The shortest pair and the longest, of any bytes.
 #[test]
-fn the_line_of_a_pair_is_its_insert(rt: HostRuntime) -> Result<(), std::test::Fail> {
+fn the_line_of_a_pair_is_its_insert(rt: HostRuntime) -> Result<(), Fail> {
     for lengths in [(1, 0), (1, 1), (255, 4096)] {
         for first in [0u8, 10, 32, 45, 120, 255] {
             let pair = pair_of(rt.alloc(), lengths, first)?;

@@ -1,5 +1,7 @@
 //! A server of sessions over loopback, one connection after another.
 
+use chord_app_text::{GrammarFault, LineFault, Words};
+use chord_map::Bytes;
 use chord_serve::{
     ClientSession, FrameProtocol, KeptSessions, Parted, ReadSize, drive, tell_no_session,
     tell_opened, tell_session_known,
@@ -11,14 +13,54 @@ use std::io::{self, Read, Write};
 use std::net::{TcpListener, TcpStream};
 
 /// What the server does with a connection.
-#[derive(Clone, Copy)]
-pub enum Visit<'a> {
+#[derive(Drop)]
+pub enum Visit {
     /// Serves it until it has written this number of bytes.
     Serve(usize),
     /// Drops the sessions that it keeps, and then serves it.
     Forget,
     /// Reads once, and answers with these bytes.
-    Answer(&'a [u8]),
+    Answer(Bytes),
+    /// Reads this number of bytes, and answers with these.
+    Hear(usize, Bytes),
+}
+
+impl Visit {
+    /// `serve 30`, and 0 for any number of bytes; `forget`; `answer 0aff`, and `answer -` for no
+    /// byte; `hear 27 0aff`.
+    fn read(alloc: Global, words: &mut Words) -> Result<Visit, LineFault> {
+        match words.word()? {
+            "serve" => match words.number()? as usize {
+                0 => Ok(Visit::Serve(usize::MAX)),
+                most => Ok(Visit::Serve(most)),
+            },
+            "forget" => Ok(Visit::Forget),
+            "answer" => Ok(Visit::Answer(words.bytes(alloc)?)),
+            "hear" => {
+                let count = words.number()? as usize;
+                Ok(Visit::Hear(count, words.bytes(alloc)?))
+            }
+            _ => Err(GrammarFault::NoLine.into()),
+        }
+    }
+}
+
+/// All visits that are left on a line; `often` is 64 times `serve 0`.
+pub fn visits(alloc: Global, words: &mut Words) -> Result<Vec<Visit>, LineFault> {
+    let mut visits = Vec::new(alloc);
+    let line = *words;
+    let are_many = matches!(words.word(), Ok("often"));
+    if !are_many {
+        *words = line;
+    }
+    for _ in 0..64u64 {
+        if are_many {
+            visits.push(Visit::Serve(usize::MAX))?;
+        } else if words.has_more() {
+            visits.push(Visit::read(alloc, words)?)?;
+        }
+    }
+    Ok(visits)
 }
 
 #[derive(Drop)]
@@ -29,6 +71,8 @@ pub struct SmallServer {
     pub closed: usize,
     /// How many requests the askers of closed sessions were asked.
     pub asked: usize,
+    /// What was heard of a client.
+    pub heard: Vec<u8>,
 }
 
 impl SmallServer {
@@ -38,6 +82,7 @@ impl SmallServer {
             kept: KeptSessions::new(alloc),
             closed: 0,
             asked: 0,
+            heard: Vec::new(alloc),
         }
     }
 
@@ -98,11 +143,11 @@ impl SmallServer {
         self.part(opening.token, protocol.into_parted());
     }
 
-    fn visit(&mut self, stream: &TcpStream, visit: Visit<'_>) {
+    fn visit(&mut self, stream: &TcpStream, visit: &Visit) -> io::Result<()> {
         let mut reader = stream;
         let mut writer = stream;
         match visit {
-            Visit::Serve(most) => self.serve(&mut reader, &mut Cut::new(writer, most)),
+            Visit::Serve(most) => self.serve(&mut reader, &mut Cut::new(writer, *most)),
             Visit::Forget => {
                 self.kept = KeptSessions::new(self.alloc);
                 self.serve(&mut reader, &mut writer);
@@ -110,18 +155,25 @@ impl SmallServer {
             Visit::Answer(bytes) => {
                 let mut piece = [0u8; 64];
                 let _ = reader.read(&mut piece).is_ok();
-                let _ = writer.write_all(bytes).is_ok();
+                let _ = writer.write_all(bytes.as_slice()).is_ok();
+            }
+            Visit::Hear(count, bytes) => {
+                self.heard = vec![in self.alloc; 0u8; *count]?;
+                reader.read_exact(&mut self.heard)?;
+                writer.write_all(bytes.as_slice())?;
             }
         }
+        Ok(())
     }
 
     /// Accepts as many connections as there are visits, unless a session is closed before. From
     /// then on nobody can connect.
-    pub fn run(&mut self, listener: TcpListener, visits: &[Visit<'_>]) -> io::Result<()> {
+    pub fn run(&mut self, listener: TcpListener, visits: &[Visit]) -> io::Result<()> {
         for (visit, accepted) in visits.iter().zip(listener.incoming()) {
             let stream = accepted?;
-            self.visit(&stream, *visit);
+            let visited = self.visit(&stream, visit);
             drop(stream);
+            visited?;
             if self.closed != 0 {
                 break;
             }

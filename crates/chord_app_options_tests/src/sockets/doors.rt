@@ -1,80 +1,198 @@
-//! The doors of a server over loopback, and the line that tells where operators are served.
+//! The doors of a server over loopback, and when it takes no more connections.
+//!
+//! - `doors Both`: the server has these doors: what the first speaks, and the second one, if that
+//!   has the address of the listener for Redis's clients.
+//! - `wake`: the first door is woken.
+//! - `stop`, `end-of-input`: the server is stopped, or its input of three bytes ends. `until stop`:
+//!   it is stopped if it is not yet.
+//! - `look`: whether it is stopped, and which listeners were woken since, which do not wait.
+//! - `until`: what a server does that stays, with 300 seconds to be idle, 60 for sessions and 1 MB
+//!   of buffers. `seven`, `seven stop`: what one does that takes seven connections, once it was to
+//!   be stopped.
 
 use crate::checks::check;
-use chord_app_sockets::{Door, Doors, Lines, Protocol};
+use chord_app_sockets::{ClientLimits, Doors, Lines, Stop, Until};
+use chord_app_text::{GrammarFault, LineFault, Words};
+use chord_testkit::{Subject, Text, follow_on};
 use std::alloc::Global;
 use std::io;
 use std::net::{Net, TcpListener, TcpStream};
 use std::sync::Wait;
+use std::test::Fail;
 use std::time::Clock;
 
+/// A server with two listeners, of which it may use one.
+#[derive(Drop)]
+struct Doored<'a, R> {
+    rt: &'a R,
+    frames: TcpListener,
+    redis: TcpListener,
+    stop: Stop,
+}
+
+/// A listener that does not wait, so that a test ends if nobody connects.
 fn bound<R: Net<Listener = TcpListener, Stream = TcpStream>>(rt: &R) -> io::Result<TcpListener> {
-    TcpListener::bind(rt, "127.0.0.1:0")
-}
-
-/// What is seen of the doors of two listeners.
-#[derive(Clone, Copy, Debug, PartialEq, Eq)]
-struct Seen {
-    /// Whether the listener of frames alone has a second address.
-    one_has_second: bool,
-    /// What the first and the second door of both speak.
-    protocols: (Protocol, Option<Protocol>),
-    /// Whether the second address of both is that of the listener for Redis's clients.
-    is_its: bool,
-}
-
-fn look<R: Net<Listener = TcpListener, Stream = TcpStream>>(rt: &R) -> io::Result<Seen> {
-    let frames = bound(rt)?;
-    let redis = bound(rt)?;
-    let both = Doors::Both {
-        frames: &frames,
-        redis: &redis,
-    };
-    let seen = Seen {
-        one_has_second: Doors::Frames(&frames).second_address()?.is_some(),
-        protocols: (
-            both.first().protocol,
-            both.second().map(|door| door.protocol),
-        ),
-        is_its: both.second_address()? == Some(redis.local_addr()?),
-    };
-    drop(redis);
-    drop(frames);
-    Ok(seen)
-}
-
-#[test]
-fn the_second_door_is_for_redis(rt: HostRuntime) {
-    let wanted = Seen {
-        one_has_second: false,
-        protocols: (Protocol::Frames, Some(Protocol::Redis)),
-        is_its: true,
-    };
-    let seen = look(&rt).map_err(|error| error.kind());
-    assert!(rt; seen == Ok(wanted), "the doors of two listeners: {seen:?}");
-}
-
-/// Whether somebody connects before a door is woken, and afterwards. The listener does not wait.
-fn woken<R: Net<Listener = TcpListener, Stream = TcpStream> + Clock>(
-    rt: &R,
-) -> io::Result<(bool, bool)> {
-    let listener = bound(rt)?;
+    let listener = TcpListener::bind(rt, "127.0.0.1:0")?;
     listener.set_nonblocking(true)?;
-    let before = listener.accept().is_ok();
-    let door = Door {
-        protocol: Protocol::Frames,
-        listener: &listener,
-    };
-    door.wake(rt);
-    let after = listener.accept().is_ok();
-    drop(listener);
-    Ok((before, after))
+    Ok(listener)
 }
 
+impl<'a, R: Net<Listener = TcpListener, Stream = TcpStream> + Clock> Doored<'a, R> {
+    fn new(rt: &'a R) -> io::Result<Doored<'a, R>> {
+        let frames = bound(rt)?;
+        let redis = bound(rt)?;
+        let stop = Stop::of(Doors::Frames(&frames))?;
+        Ok(Doored {
+            rt,
+            frames,
+            redis,
+            stop,
+        })
+    }
+
+    fn doors(&mut self, name: &str) -> io::Result<Text> {
+        let frames = &self.frames;
+        let redis = &self.redis;
+        let doors = match name {
+            "Frames" => Doors::Frames(frames),
+            "Redis" => Doors::Redis(redis),
+            _ => Doors::Both { frames, redis },
+        };
+        let first = doors.first().protocol;
+        let second = doors.second().map(|door| door.protocol);
+        let is_its = doors.second_address()? == second.and(Some(redis.local_addr()?));
+        self.stop = Stop::of(doors)?;
+        Ok(Text::of(format_args!("{first:?}, {second:?}, {is_its}")))
+    }
+
+    /// Who connected since.
+    fn look(&self) -> Text {
+        let text = Text::of(if self.stop.is_stopped() {
+            "stopped"
+        } else {
+            "runs"
+        });
+        let frames = if self.frames.accept().is_ok() {
+            ", woken at Frames"
+        } else {
+            ""
+        };
+        let redis = if self.redis.accept().is_ok() {
+            ", woken at Redis"
+        } else {
+            ""
+        };
+        text.and_str(frames, 20).and_str(redis, 20)
+    }
+
+    fn until(&self) -> Until<'_> {
+        Until::Stopped {
+            stop: &self.stop,
+            limits: ClientLimits {
+                idle: 300,
+                keep: 60,
+                buffers: 1_048_576,
+            },
+        }
+    }
+}
+
+impl<R: Net<Listener = TcpListener, Stream = TcpStream> + Clock> Subject for Doored<'_, R> {
+    fn act(&mut self, words: &mut Words) -> Result<Text, LineFault> {
+        let deed = words.word()?;
+        let stops = words.has_more() && deed != "doors";
+        if stops && words.word()? != "stop" {
+            return Err(GrammarFault::NoLine.into());
+        }
+        match deed {
+            "doors" => Ok(self.doors(words.word()?).unwrap_or(Text::of("no doors"))),
+            "look" => Ok(self.look()),
+            "wake" => {
+                Doors::Frames(&self.frames).first().wake(self.rt);
+                Ok(Text::of("Done"))
+            }
+            "stop" => {
+                self.stop.stop(self.rt);
+                Ok(Text::of("Done"))
+            }
+            "end-of-input" => {
+                self.stop.stop_behind(self.rt, &mut b"abc".as_slice());
+                Ok(Text::of("Done"))
+            }
+            "until" => Ok(seen(self.rt, self.until(), stops)),
+            "seven" => Ok(seen(self.rt, Until::Connections(7), stops)),
+            _ => Err(GrammarFault::NoLine.into()),
+        }
+    }
+
+    fn show(&self) -> Text {
+        Text::of("")
+    }
+}
+
+/// What a server does that ends so, once it was to be stopped, if it was.
+fn seen<R: Net + Clock>(rt: &R, until: Until<'_>, stops: bool) -> Text {
+    if stops {
+        until.stop(rt);
+    }
+    let most = until.most();
+    let turns = until.turns();
+    let size = until.read_size();
+    let keeps = until.keeps_callers();
+    let idle = until.idle();
+    let session = until.session_seconds();
+    let buffers = until.buffers();
+    let ends = Text::of(format_args!(
+        "connections {most}, turns {turns}, {size:?}, keeps callers {keeps}"
+    ));
+    let ends = ends.as_str();
+    let is_stopped = until.is_stopped();
+    Text::of(format_args!(
+        "{ends}, idle {idle:?}, session {session}, buffers {buffers}, stopped {is_stopped}"
+    ))
+}
+
+const SCRIPT: &str = "
+# a stop wakes each door, once
+doors Redis > Redis, None, true
+look > runs
+stop > Done
+look > stopped, woken at Redis
+look > stopped
+doors Both > Frames, Some(Redis), true
+look > runs
+stop > Done
+look > stopped, woken at Frames, woken at Redis
+look > stopped
+doors Frames > Frames, None, true
+look > runs
+stop > Done
+look > stopped, woken at Frames
+look > stopped
+# a door is woken by a connection
+wake > Done
+look > stopped, woken at Frames
+# a server that takes seven connections can't be stopped
+seven > connections 7, turns 65536, Small, keeps callers false, idle None, session 600, buffers 268435456, stopped false
+seven stop > connections 7, turns 65536, Small, keeps callers false, idle None, session 600, buffers 268435456, stopped false
+# one that stays is stopped at its input's end
+doors Frames > Frames, None, true
+until > connections 18446744073709551615, turns 18446744073709551615, Large, keeps callers true, idle Some(300), session 60, buffers 1048576, stopped false
+end-of-input > Done
+until > connections 18446744073709551615, turns 18446744073709551615, Large, keeps callers true, idle Some(300), session 60, buffers 1048576, stopped true
+look > stopped, woken at Frames
+# or by a stop; the second one wakes nobody
+doors Frames > Frames, None, true
+look > runs
+until stop > connections 18446744073709551615, turns 18446744073709551615, Large, keeps callers true, idle Some(300), session 60, buffers 1048576, stopped true
+look > stopped, woken at Frames
+until stop > connections 18446744073709551615, turns 18446744073709551615, Large, keeps callers true, idle Some(300), session 60, buffers 1048576, stopped true
+look > stopped
+";
+
 #[test]
-fn a_door_is_woken_by_a_connection(rt: HostRuntime) {
-    let seen = woken(&rt).map_err(|error| error.kind());
-    assert!(rt; seen == Ok((false, true)), "who connects: {seen:?}");
+fn doors_and_stops(rt: HostRuntime) -> Result<(), Fail> {
+    follow_on(&mut Doored::new(&rt)?, SCRIPT)
 }
 
 /// Whether the line of an operator's address is written, and nothing else.

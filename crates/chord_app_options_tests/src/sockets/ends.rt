@@ -1,123 +1,17 @@
-//! When a server ends, how connections end, and the lines that are written of them.
+//! How connections end, and the lines that are written of them.
 
 use crate::checks::check;
-use chord_app_sockets::{ClientLimits, Doors, Ended, Lines, Stop, Until};
-use chord_app_text::{Fault, Finish};
-use chord_serve::{ReadSize, Served};
+use crate::quoted::OneLine;
+use chord_app_sockets::{Doors, Ended, Lines};
+use chord_app_text::Finish;
+use chord_serve::Served;
+use chord_testkit::Text;
 use chord_wire::FaultCode;
 use std::alloc::Global;
 use std::io;
 use std::net::{Net, TcpListener, TcpStream};
+use std::str::from_utf8;
 use std::sync::Wait;
-use std::time::Clock;
-
-/// What a server does that ends so.
-#[derive(Clone, Copy, Debug, PartialEq, Eq)]
-struct Shown {
-    connections: u64,
-    turns: u64,
-    size: ReadSize,
-    keeps_callers: bool,
-    idle: Option<u64>,
-    session: u64,
-    buffers: u64,
-    is_stopped: bool,
-}
-
-fn show(until: Until<'_>) -> Shown {
-    Shown {
-        connections: until.most(),
-        turns: until.turns(),
-        size: until.read_size(),
-        keeps_callers: until.keeps_callers(),
-        idle: until.idle(),
-        session: until.session_seconds(),
-        buffers: until.buffers(),
-        is_stopped: until.is_stopped(),
-    }
-}
-
-/// A server that takes seven connections.
-const SEVEN: Shown = Shown {
-    connections: 7,
-    turns: 65_536,
-    size: ReadSize::Small,
-    keeps_callers: false,
-    idle: None,
-    session: 600,
-    buffers: 268_435_456,
-    is_stopped: false,
-};
-
-/// One that stays until it is stopped.
-const STAYING: Shown = Shown {
-    connections: u64::MAX,
-    turns: u64::MAX,
-    size: ReadSize::Large,
-    keeps_callers: true,
-    idle: Some(300),
-    session: 60,
-    buffers: 1_048_576,
-    is_stopped: false,
-};
-
-/// A server before and after its input ends, and whether it is woken.
-#[derive(Clone, Copy, Debug, PartialEq, Eq)]
-struct Stopped {
-    before: Shown,
-    after: Shown,
-    is_woken: bool,
-}
-
-/// Stops a server at the end of an input of three bytes. Its listener does not wait, so that the
-/// test ends if it is not woken.
-fn stop_at_the_end<R: Net<Listener = TcpListener, Stream = TcpStream> + Clock>(
-    rt: &R,
-) -> io::Result<Stopped> {
-    let listener = TcpListener::bind(rt, "127.0.0.1:0")?;
-    listener.set_nonblocking(true)?;
-    let stop = Stop::new(listener.local_addr()?);
-    let until = Until::Stopped {
-        stop: &stop,
-        limits: ClientLimits {
-            idle: 300,
-            keep: 60,
-            buffers: 1_048_576,
-        },
-    };
-    let before = show(until);
-    let mut input = b"abc".as_slice();
-    stop.stop_behind(rt, &mut input);
-    let after = show(until);
-    let is_woken = listener.accept().is_ok();
-    drop(listener);
-    Ok(Stopped {
-        before,
-        after,
-        is_woken,
-    })
-}
-
-#[test]
-fn servers_end(rt: HostRuntime) {
-    let until = Until::Connections(7);
-    check!(&rt; show(until) == SEVEN, "one that takes seven connections");
-    until.stop(&rt);
-    check!(&rt; show(until) == SEVEN, "it can't be stopped");
-    let wanted = Stopped {
-        before: STAYING,
-        after: Shown {
-            is_stopped: true,
-            ..STAYING
-        },
-        is_woken: true,
-    };
-    let stopped = stop_at_the_end(&rt).ok();
-    check!(&rt;
-        stopped == Some(wanted),
-        "one that stays is stopped at its input's end"
-    );
-}
 
 /// How a connection ends, its word, and whether it is closed slowly.
 const ENDS: &[(Ended, &str, bool)] = &[
@@ -140,53 +34,25 @@ const ENDS: &[(Ended, &str, bool)] = &[
     (Ended::NotAccepted, "read", false),
 ];
 
-/// Whether the end is written so.
-fn is_written(alloc: Global, ended: &Ended, wanted: &str) -> Option<bool> {
-    let text = format!(in alloc; "{ended}").ok()?;
-    let is_its = text.as_str() == wanted;
-    drop(text);
-    Some(is_its)
-}
-
 #[test]
 fn connections_end(rt: HostRuntime) {
     for (ended, word, is_slow) in ENDS {
-        let is_written = is_written(rt.alloc(), ended, word);
-        check!(&rt; is_written == Some(true), word);
+        check!(&rt; Text::of(*ended).as_str() == *word, word);
         check!(&rt; ended.is_closed_slowly() == *is_slow, word);
     }
     let idle = Ended::by(Served::Read, true);
     check!(&rt; idle == Ended::Idle, "a client that was idle too long");
     let read = Ended::by(Served::Read, false);
-    check!(&rt;
-        read == Ended::Served(Served::Read),
-        "one that could not be read"
-    );
+    check!(&rt; read == Ended::Served(Served::Read), "one that could not be read");
 }
 
-/// What was told of connections 1, 0 and 2, whether all was written then, what was told of
-/// connection 3, and how the lines ended.
-#[derive(Clone, Copy, Debug, PartialEq, Eq)]
-struct Told {
-    told: [bool; 3],
-    is_written: bool,
-    later: bool,
-    finish: Result<(), Finish>,
-}
-
-const ALL_TOLD: Told = Told {
-    told: [true; 3],
-    is_written: true,
-    later: true,
-    finish: Ok(()),
-};
-
-/// Tells of connections 1, 0 and 2, in this order, has that written, and tells of connection 3.
+/// Tells of connections 1, 0 and 2, in this order, has that written, and tells of connection 3. Gives
+/// what was told of the three, whether all was written, what was told of the last, and how it ended.
 fn tell<W: io::Write + Drop>(
     rt: &impl Wait,
     lines: Lines<W>,
     listener: &TcpListener,
-) -> Result<Told, Finish> {
+) -> Result<Text, Finish> {
     lines.begin(rt, Doors::Frames(listener))?;
     let told = [
         lines.tell(rt, 1, &Ended::Idle),
@@ -194,24 +60,21 @@ fn tell<W: io::Write + Drop>(
         lines.tell(rt, 2, &Ended::CallersSpent),
     ];
     lines.end(rt);
-    Ok(Told {
-        told,
-        is_written: lines.write_on(rt),
-        later: lines.tell(rt, 3, &Ended::Idle),
-        finish: lines.finish(),
-    })
+    let is_written = lines.write_on(rt);
+    let later = lines.tell(rt, 3, &Ended::Idle);
+    let finish = lines.finish();
+    Ok(Text::of(format_args!("{told:?} {is_written} {later} {finish:?}")))
 }
 
-/// Whether these lines are written behind the address of a server, which keeps the lines of this
-/// many connections for the end.
+/// What `tell` gives, and what is written behind the address of a server, which keeps the lines of
+/// this many connections for the end.
 fn writes<R: Net<Listener = TcpListener, Stream = TcpStream> + Wait>(
     rt: &R,
     alloc: Global,
     kept: usize,
-    wanted: &str,
-) -> Option<(Told, bool)> {
+) -> Option<(Text, Text)> {
     let listener = TcpListener::bind(rt, "127.0.0.1:0").ok()?;
-    let address = listener.local_addr().ok()?;
+    let address = Text::of(listener.local_addr().ok()?);
     let mut written: Vec<u8> = Vec::new(alloc);
     let lines = if kept == 0 {
         Lines::as_they_end(alloc, &mut written)
@@ -219,27 +82,37 @@ fn writes<R: Net<Listener = TcpListener, Stream = TcpStream> + Wait>(
         Lines::by_number(alloc, &mut written, kept)
     };
     let told = tell(rt, lines, &listener).ok()?;
-    let wanted = format!(in alloc; "listening on {address}\n{wanted}").ok()?;
-    Some((told, written.as_slice() == wanted.as_bytes()))
+    let behind = from_utf8(&written)
+        .unwrap_or("?")
+        .strip_prefix("listening on ")
+        .and_then(|text| text.strip_prefix(address.as_str()));
+    Some((told, Text::of(OneLine(behind.unwrap_or("no address")))))
 }
 
 #[test]
 fn lines_of_connections(rt: HostRuntime) {
-    let wanted =
-        "connection 1 idle\nconnection 0 ended\nconnection 2 callersspent\nconnection 3 idle\n";
-    let written = writes(&rt, rt.alloc(), 0, wanted);
-    check!(&rt; written == Some((ALL_TOLD, true)), "as they end");
-    let wanted =
-        "connection 0 ended\nconnection 1 idle\nconnection 2 callersspent\nconnection 3 idle\n";
-    let written = writes(&rt, rt.alloc(), 4, wanted);
-    check!(&rt; written == Some((ALL_TOLD, true)), "by number at the end");
+    for (kept, wanted) in [
+        // As they end, and by number at the end.
+        (
+            0,
+            "|connection 1 idle|connection 0 ended|connection 2 callersspent|connection 3 idle|",
+        ),
+        (
+            4,
+            "|connection 0 ended|connection 1 idle|connection 2 callersspent|connection 3 idle|",
+        ),
+    ] {
+        let (told, written) = writes(&rt, rt.alloc(), kept).expect(&rt, "lines");
+        check!(&rt; told.as_str() == "[true, true, true] true true Ok(())", wanted);
+        check!(&rt; written.as_str() == wanted, wanted);
+    }
 }
 
 /// Writes into room for the address, which has at most 32 bytes, and for one line of 18 at least.
 fn writes_one_line<R: Net<Listener = TcpListener, Stream = TcpStream> + Wait>(
     rt: &R,
     alloc: Global,
-) -> Option<Told> {
+) -> Option<Text> {
     let listener = TcpListener::bind(rt, "127.0.0.1:0").ok()?;
     let mut room = [0u8; 50];
     let lines = Lines::as_they_end(alloc, room.as_mut_slice());
@@ -248,17 +121,9 @@ fn writes_one_line<R: Net<Listener = TcpListener, Stream = TcpStream> + Wait>(
 
 #[test]
 fn a_line_that_is_not_written_is_the_last(rt: HostRuntime) {
-    let wanted = Told {
-        told: [true, true, true],
-        is_written: false,
-        later: false,
-        finish: Err(Finish::Fault(Fault::Write)),
-    };
-    let told = writes_one_line(&rt, rt.alloc());
-    check!(&rt;
-        told == Some(wanted),
-        "no line is told behind one that failed"
-    );
+    let told = writes_one_line(&rt, rt.alloc()).expect(&rt, "lines");
+    let wanted = "[true, true, true] false false Err(Fault(Write))";
+    check!(&rt; told.as_str() == wanted, "no line is told behind one that failed");
 }
 
 /// Tells of 65,538 connections before any line is written, and then of one more.

@@ -1,9 +1,10 @@
 //! A connection in memory: what a client sent, and what it got.
 
 use super::operators::RingValue;
-use chord_app_operator::OperatorService;
+use chord_app_operator::{Duplex, OperatorLink, OperatorService};
 use std::alloc::Global;
 use std::hash::RandomState;
+use std::io::{self, ErrorKind, Read, Write};
 use std::test::Fail;
 
 /// The port of all tests.
@@ -69,29 +70,37 @@ pub fn serve_text(rt: &HostRuntime, operator: RingValue, sent: &str) -> Result<E
 /// The same for bytes.
 pub fn serve_bytes(rt: &HostRuntime, operator: RingValue, sent: &[u8]) -> Result<Exchange, Fail> {
     let alloc = rt.alloc();
-    let mut service = OperatorService::new(alloc, PORT, operator)?;
-    let mut got = Vec::new(alloc);
-    let served = serve_over(rt, &mut service, sent, &mut got);
-    let operator = service.into_operator();
-    match served {
-        Ok(()) => Ok(Exchange { got, operator }),
-        Err(fail) => {
-            drop(got);
-            drop(operator);
-            Err(fail)
-        }
-    }
+    let service = OperatorService::new(alloc, PORT, operator)?;
+    let stream = Duplex {
+        reader: sent,
+        writer: Vec::new(alloc),
+    };
+    let mut link = OperatorLink::new(RandomState::new(rt)?, service, stream);
+    let driven = drive(&mut link);
+    let (service, stream) = link.into_parts();
+    let exchange = Exchange {
+        got: stream.writer,
+        operator: service.into_operator(),
+    };
+    driven?;
+    Ok(exchange)
 }
 
-/// Serves one connection, and puts what its client gets into `got`.
-fn serve_over(
-    rt: &HostRuntime,
-    service: &mut OperatorService<RingValue>,
-    sent: &[u8],
-    got: &mut Vec<u8>,
-) -> Result<(), Fail> {
-    let mut reader = sent;
-    Ok(service.serve_connection(RandomState::new(rt)?, &mut reader, got)?)
+/// Reads, answers and writes until the link is done. Fails if that does not come.
+pub fn drive<R: Read, W: Write>(link: &mut OperatorLink<RingValue, R, W>) -> io::Result<()> {
+    for _ in 0..100_000u64 {
+        link.advance();
+        if link.is_done() {
+            return Ok(());
+        }
+        let moved = if link.wants_write() {
+            link.write_to()
+        } else {
+            link.read_from()
+        };
+        let _ = moved.is_ok();
+    }
+    Err(io::Error::from(ErrorKind::TimedOut))
 }
 
 /// A request to the port's own host.

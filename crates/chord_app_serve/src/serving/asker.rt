@@ -11,8 +11,8 @@ use chord_store::EntryStore;
 use chord_table::Naming;
 use chord_wire::is_writable;
 
-/// Gives up the requests of a session up to this number that have no reply. The caller had submitted
-/// `before` requests when the session began.
+/// Gives up the requests of a session up to this number that have no reply. The caller had
+/// submitted `before` requests when the session began.
 pub(crate) fn settle<J: Naming, S: EntryStore>(
     caller: &mut RingClient<'_, J, S>,
     before: u64,

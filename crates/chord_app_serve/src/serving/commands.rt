@@ -39,7 +39,8 @@ impl<S: EntryStore> ServerStores<S> {
     }
 }
 
-/// Serves until then, and writes the lines that are left.
+/// Serves until then, and writes the lines that are left. Where they can't be written a server that
+/// stays has done its work all the same.
 fn serve_until<S: EntryStore + Send, R: Host, L: Log + Sync, W: Write + Send + Drop>(
     rt: &R,
     setup: &ServerSetup<'_, L>,
@@ -69,7 +70,10 @@ fn serve_until<S: EntryStore + Send, R: Host, L: Log + Sync, W: Write + Send + D
     };
     match serving.serve_named::<Brand>(parts) {
         Ok(ring) => {
-            lines.finish()?;
+            let written = lines.finish();
+            if !until.keeps_callers() {
+                written?;
+            }
             Ok(ring)
         }
         Err(finish) => {
@@ -112,19 +116,21 @@ fn stop_behind<R: Host, I: Read + Send + Drop + 'static>(
     }
 }
 
-/// What stops a server of this setup at the end of the input.
-fn stop_at_end<R: Host, L, I: Read + Send + Drop + 'static>(
+/// What stops a server of this setup, at the end of the input if there is one.
+fn stop_of<R: Host, L, I: Read + Send + Drop + 'static>(
     rt: &R,
     setup: &ServerSetup<'_, L>,
-    input: I,
+    input: Option<I>,
 ) -> Result<Arc<Stop>, Finish> {
     let stop = Arc::new(setup.alloc, Stop::of(setup.doors)?)?;
-    stop_behind(rt, &stop, input)?;
+    if let Some(input) = input {
+        stop_behind(rt, &stop, input)?;
+    }
     Ok(stop)
 }
 
-/// The command `serve --stay`: a ring of the plan's nodes over these stores serves until the input
-/// ends.
+/// The command `serve --stay`: a ring of the plan's nodes over these stores serves until an
+/// operator stops it or the input ends, if there is one.
 pub fn stay<
     S: EntryStore + Send,
     R: Host,
@@ -136,13 +142,13 @@ pub fn stay<
     setup: &ServerSetup<'_, L>,
     stores: ServerStores<S>,
     limits: ClientLimits,
-    input: I,
+    input: Option<I>,
     writer: W,
 ) -> Result<WholeRing, Finish>
     ensures { IfOk result (λ ring. StandsWhole ring) }
 {
     let parts = ring_parts_of(setup.alloc, setup.settings)?;
-    let stop = match stop_at_end(rt, setup, input) {
+    let stop = match stop_of(rt, setup, input) {
         Ok(stop) => stop,
         Err(finish) => {
             drop(stores);

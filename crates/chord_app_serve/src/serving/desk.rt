@@ -7,9 +7,8 @@ use crate::serving::shown::store_shown;
 use crate::serving::spares::Spares;
 use chord_app_operator::{ProcessSight, StoreKind};
 use chord_app_plan::Plan;
-use chord_app_sockets::{Clients, OperatorPort, ProcessFiles, ServerSetup, Stop};
+use chord_app_sockets::{OperatorPort, ProcessFiles, ServerSetup, Stop};
 use chord_store::EntryStore;
-use std::alloc::Global;
 use std::hash::RandomState;
 use std::io;
 use std::net::TcpListener;
@@ -23,13 +22,12 @@ pub struct OperatorDoor<'s> {
     pub port: u16,
     pub keys: RandomState,
     pub process: Option<&'s ProcessFiles>,
-    /// Tells those who accept that the server ends.
+    /// Tells who serves them that the server ends.
     pub stop: Stop,
-    pub open: Clients,
 }
 
 impl<'s> OperatorDoor<'s> {
-    fn new(alloc: Global, port: OperatorPort<'s>) -> io::Result<OperatorDoor<'s>> {
+    fn new(port: OperatorPort<'s>) -> io::Result<OperatorDoor<'s>> {
         let address = port.listener.local_addr()?;
         Ok(OperatorDoor {
             listener: port.listener,
@@ -37,7 +35,6 @@ impl<'s> OperatorDoor<'s> {
             keys: port.keys,
             process: port.process,
             stop: Stop::new(address),
-            open: Clients::new(alloc),
         })
     }
 }
@@ -63,7 +60,7 @@ impl<'s, S: EntryStore> Desk<'s, S> {
     ) -> io::Result<Desk<'s, S>> {
         let spares = Spares::new(setup.alloc, setup.plan.spare, spares)?;
         let door = match setup.operator {
-            Some(port) => Some(OperatorDoor::new(setup.alloc, port)?),
+            Some(port) => Some(OperatorDoor::new(port)?),
             None => None,
         };
         Ok(Desk {

@@ -182,8 +182,8 @@ impl<'t, 's, 'r, J: Naming, S: EntryStore, R: Wait + Clock + Net, L: Log, W: Wri
         refused
     }
 
-    /// Keeps what a connection left of its session, if it had one that can go on, or takes its caller
-    /// back.
+    /// Keeps what a connection left of its session, if it had one that can go on, or takes its
+    /// caller back.
     fn part(&self, number: u64, protocol: RingFrames<'r, J, S, R>) {
         let server = self.server;
         let rt = server.service.rt;

@@ -13,7 +13,7 @@ use chord_app_operator::{
     JoinRequest, LeaveRefusal, Operator, PairsPage, PairsRequest, RescueRefusal, RingSight,
     StoredNode,
 };
-use chord_app_sockets::{Clients, Host, Until};
+use chord_app_sockets::{Clients, Until};
 use chord_ident::Id;
 use chord_live_ring::{CrashFault, RescueFault, Ring};
 use chord_live_types::LeaveFault;
@@ -21,6 +21,7 @@ use chord_model::Phase;
 use chord_store::EntryStore;
 use chord_table::Naming;
 use std::alloc::{AllocError, Global};
+use std::net::Net;
 use std::sync::Wait;
 use std::time::Clock;
 
@@ -120,7 +121,8 @@ impl<'t, 's, 'r, J: Naming, S: EntryStore, R: Wait + Clock> RingOperator<'t, 's,
     }
 }
 
-impl<'t, 's, 'r, J: Naming, S: EntryStore, R: Host> Operator for RingOperator<'t, 's, 'r, J, S, R> {
+impl<'t, 's, 'r, J: Naming, S: EntryStore, R: Wait + Clock + Net> Operator
+    for RingOperator<'t, 's, 'r, J, S, R> {
     ghost answers = { λ old question answer new. (new ≡ old) × Tells old.ring.now (store_of old.desk.now.plan.now.nodes.items old.desk.now.spares.kind) question answer };
 
     fn sight(&mut self, alloc: Global) -> Result<RingSight, AllocError> {

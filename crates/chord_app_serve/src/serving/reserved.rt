@@ -6,8 +6,8 @@ use chord_table::Naming;
 use std::alloc::Global;
 use std::sync::{Mutex, Wait};
 
-/// Callers, each reserved for the connection of a number. None is where callers serve one connection
-/// after another.
+/// Callers, each reserved for the connection of a number. None is where callers serve one
+/// connection after another.
 #[derive(Drop)]
 pub struct Reserved<'r, J: Naming, S: EntryStore> {
     callers: Mutex<Vec<(u64, IdleCaller<'r, J, S>)>>,

@@ -83,8 +83,8 @@ impl<'s, 'r, J: Naming, S: EntryStore, R: Wait + Clock + Net, L: Log, W: Write> 
         warn!(self.notes; target: "chord", "connection {number} sent HTTP or a byte 0 to the port of Redis's protocol: a web page may have tried to reach the store");
     }
 
-    /// Notes and logs how a connection ended, and warns of one that may be a web page's, at most once
-    /// a second. If writing fails, the server stops.
+    /// Notes and logs how a connection ended, and warns of one that may be a web page's, at most
+    /// once a second.
     pub fn tell(&self, number: u64, ended: &Ended) {
         let rt = self.service.rt;
         info!(self.notes; target: "chord", "connection {number} {ended}");
@@ -94,9 +94,7 @@ impl<'s, 'r, J: Naming, S: EntryStore, R: Wait + Clock + Net, L: Log, W: Write> 
             self.warn_of_foreign(number);
         }
         self.tally.end(self.service.rt, ended);
-        if !self.lines.tell(self.service.rt, number, ended) {
-            self.until.stop(self.service.rt);
-        }
+        let _ = self.lines.tell(self.service.rt, number, ended);
     }
 
     /// How event loops serve connections. A request is tried for as long as a blocking call of it
@@ -384,10 +382,10 @@ impl<
         start(rt, alloc, scope, redis, redis_house)
     }
 
-    /// Writes lines as they come. If writing fails, the server stops.
+    /// Writes lines as they come. If writing fails, the server goes on without them.
     fn write_lines(&self) {
         if !self.lines.write_on(self.service.rt) {
-            self.until.stop(self.service.rt);
+            warn!(self.notes; target: "chord", "standard output can't be written: no more lines are");
         }
     }
 

@@ -63,9 +63,9 @@ impl<'r, J: Naming, S: EntryStore, R: Wait + Clock> Service<'r, J, S, R> {
         }
     }
 
-    /// What a client speaks with whose connection begins without an open, and with these bytes. Each
-    /// request is asked of this caller, at the node `via`, in order, and answered by what it was told:
-    /// a link of it promises that (`chord_serve::laws::links_are_served`).
+    /// What a client speaks with whose connection begins without an open, and with these bytes.
+    /// Each request is asked of this caller, at the node `via`, in order, and answered by what it
+    /// was told: a link of it promises that (`chord_serve::laws::links_are_served`).
     pub fn meet_frames(
         &self,
         idle: IdleCaller<'r, J, S>,
@@ -103,9 +103,9 @@ impl<'r, J: Naming, S: EntryStore, R: Wait + Clock> Service<'r, J, S, R> {
         ClientSession::new(self.alloc, TryingAsker::new(self.rt, idle, via, tally))
     }
 
-    /// What a client speaks Redis's protocol with, by this caller at the node `via`. Each request of
-    /// a command is asked of this caller, in order, and answered by what it was told: a link of it
-    /// promises that (`chord_resp_serve::laws::links_are_answered`).
+    /// What a client speaks Redis's protocol with, by this caller at the node `via`. Each request
+    /// of a command is asked of this caller, in order, and answered by what it was told: a link of
+    /// it promises that (`chord_resp_serve::laws::links_are_answered`).
     pub fn meet_redis<'i, N: Informs>(
         &self,
         idle: IdleCaller<'r, J, S>,

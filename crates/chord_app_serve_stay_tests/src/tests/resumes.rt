@@ -273,8 +273,8 @@ fn begins_all<R: Net + Wait + Clock>(rt: &R, alloc: Global, address: SocketAddr)
     Ok(())
 }
 
-/// Resumes all sessions, one after another. The oldest were dropped, also the one whose insert found
-/// the store full, so that it does not act once there is room.
+/// Resumes all sessions, one after another. The oldest were dropped, also the one whose insert
+/// found the store full, so that it does not act once there is room.
 fn resumes_all<R: Net>(rt: &R, alloc: Global, address: SocketAddr) -> io::Result<()> {
     for token in PENDING..=LAST {
         if token <= LAST_DROPPED {
@@ -320,7 +320,8 @@ fn lines(alloc: Global) -> Result<String, AllocError> {
     Ok(lines)
 }
 
-/// Two hundred sessions and one with a pending request lose their connections on a server of 64 callers.
+/// Two hundred sessions and one with a pending request lose their connections on a server of 64
+/// callers.
 #[test]
 fn old_sessions_are_dropped_in_order(rt: HostRuntime) -> Result<(), Fail> {
     let alloc = rt.alloc();

@@ -8,7 +8,7 @@ use chord_app_serve_testkit::{
     follow_noted, leave, plan_with, two_stores,
 };
 use chord_app_sockets::{ClientLimits, Doors, Host, ServerSetup};
-use chord_app_text::{Fault, Finish};
+use chord_app_text::Finish;
 use chord_wire::FaultCode;
 use log::Log;
 use log::sink::{Discard, Locked};
@@ -39,7 +39,7 @@ pub fn stay_over<'a, R: Host, L: Log + Sync, W: Write + Send + Drop>(
         operator: None,
         notes,
     };
-    stay(rt, &setup, stores, seconds, input, writer)?;
+    stay(rt, &setup, stores, seconds, Some(input), writer)?;
     Ok(())
 }
 
@@ -195,33 +195,39 @@ fn stayed_in_32_bytes<R: Host>(
     stay_over(rt, alloc, plan, doors, 4, WAITS, input, &Discard, written)
 }
 
-/// Opens a connection, and leaves.
-fn one_end<R: Net>(rt: &R, address: SocketAddr) -> io::Result<()> {
-    let mut first = TcpStream::connect(rt, address)?;
-    leave(&mut first)
+/// Opens connections one after another, and leaves each. Then the server's input ends.
+fn leave_and_end<R: Net>(rt: &R, address: SocketAddr, input: PipeWriter) -> io::Result<()> {
+    for _ in 0..3u64 {
+        let mut client = TcpStream::connect(rt, address)?;
+        leave(&mut client)?;
+    }
+    drop(input);
+    Ok(())
 }
 
-/// How a server ends whose writer has room for the address only, while its input is open.
+/// How a server ends whose writer has room for the address only. None if it did not serve all
+/// clients.
 fn stays_without_room<R: Handle + Net<Listener = TcpListener, Stream = TcpStream>>(
     rt: &R,
     alloc: Global,
-    (reader, _writer): (PipeReader, PipeWriter),
+    (reader, writer): (PipeReader, PipeWriter),
 ) -> Option<Result<(), Finish>> {
     let plan = plan_with(alloc, 1)?;
     let (listener, address) = bound(rt)?;
     let (stayed, answered) = thread::join(
         rt,
         || stayed_in_32_bytes(rt, alloc, &plan, listener, reader),
-        || one_end(rt, address),
+        || leave_and_end(rt, address, writer),
     );
     drop(plan);
     answered.ok()?;
     Some(stayed)
 }
 
+/// A server that stays goes on without lines that can't be written.
 #[test]
 fn a_line_that_is_not_written(rt: HostRuntime) -> Result<(), Fail> {
     let stayed = stays_without_room(&rt, rt.alloc(), io::pipe(&rt)?);
-    check!(&rt; stayed == Some(Err(Finish::Fault(Fault::Write))));
+    check!(&rt; stayed == Some(Ok(())));
     Ok(())
 }

@@ -7,7 +7,7 @@ use chord_app_serve::{AskResult, run};
 use chord_app_serve_testkit::{TWO_NODES, changed, plan_of, two_stores};
 use chord_app_text::{Fault, Finish};
 use chord_map::Reply;
-use chord_store::EntryStore;
+use chord_store::{CappedStore, EntryStore};
 use std::alloc::Global;
 use std::sync::Wait;
 use std::thread::Threads;
@@ -95,6 +95,36 @@ fn callers_ask_their_own(rt: HostRuntime) {
     let wanted = "0 1 added\n1 1 added\n1 2 values 1 79\n";
     let ran = runs(&rt, rt.alloc(), TWO_CALLERS, 4, wanted);
     check!(&rt; ran == Some((Finish::Done, true)));
+}
+
+/// How the plan of two callers ended over a store with room for `first` pairs and one for `second`,
+/// and whether it wrote these lines.
+fn runs_over_two<R: Threads + Wait + Clock + Sync>(
+    rt: &R,
+    alloc: Global,
+    (first, second): (u64, u64),
+    wanted: &str,
+) -> Option<(Finish, bool)> {
+    let plan = plan_of(alloc, TWO_CALLERS)?;
+    let mut stores = Vec::new(alloc);
+    stores.push(CappedStore::new(alloc, first)).ok()?;
+    stores.push(CappedStore::new(alloc, second)).ok()?;
+    let ran = runs_over(rt, alloc, &plan, stores, wanted);
+    drop(plan);
+    Some(ran)
+}
+
+/// Each node has the store of its place in the plan: node 1 holds `a`, whose SHA-1 begins with 86,
+/// and node 0 `b`, whose begins with e9.
+#[test]
+fn each_node_has_its_store(rt: HostRuntime) {
+    for (rooms, wanted) in [
+        ((4, 0), "0 1 full\n1 1 added\n1 2 values 1 79\n"),
+        ((0, 4), "0 1 added\n1 1 full\n"),
+    ] {
+        let ran = runs_over_two(&rt, rt.alloc(), rooms, wanted);
+        check!(&rt; ran == Some((Finish::Done, true)));
+    }
 }
 
 /// How a plan ended whose second node the ring refuses, and whether it wrote nothing.

@@ -7,8 +7,8 @@ use chord_app_serve::{
 use chord_app_sockets::ProcessFiles;
 use std::fs::File;
 
-/// A `stat` as proc(5) has it: its words 14 and 15 are ticks, of which a second has 100. The name of
-/// the program, in brackets, may have spaces and brackets itself.
+/// A `stat` as proc(5) has it: its words 14 and 15 are ticks, of which a second has 100. The name
+/// of the program, in brackets, may have spaces and brackets itself.
 const STAT: &str = "7 (a (b) c) S 1 7 7 0 -1 4194560 100 0 0 0 321 54 0 0 20 0 9 0 33 1000 250";
 
 /// Some lines of `limits`: the first number of a line is the limit, the second how far the process

@@ -2,9 +2,10 @@
 //! memory.
 //!
 //! `window 4`: a client with this window does the twelve requests, over as many connections as it
-//! takes. `window 4 cut 1 in 0..147`: connection 1, from 0, breaks after each of these numbers of bytes
-//! that the client writes; `out 0..100`: of its server's. What comes is whether the client got all
-//! answers, and how many requests were asked; and over how many connections, where none is cut.
+//! takes. `window 4 cut 1 in 0..147`: connection 1, from 0, breaks after each of these numbers of
+//! bytes that the client writes; `out 0..100`: of its server's. What comes is whether the client
+//! got all answers, and how many requests were asked; and over how many connections, where none is
+//! cut.
 
 use super::flying::{TOKEN, send};
 use super::visiting::{ALL, count_asked, kept, new_session, visit};

@@ -3,8 +3,8 @@
 //! - `read PING|`: the commands of a stream, each word with a comma and each command with a
 //!   semicolon behind it, and why reading stopped, wherever the stream is cut. `once PING|`: uncut.
 //!   `words 1024`: of a line of 1,024 words. `feed PING|`, `next`: in a stream that goes on.
-//!   `kept`: how many bytes are kept of a command in part. `take get k|`: the words, taken out of the
-//!   command.
+//!   `kept`: how many bytes are kept of a command in part. `take get k|`: the words, taken out of
+//!   the command.
 //! - `call SADD k a|`: what the first command calls for, or its refusal.
 //! - `verb sMembers`, `verb <4097>`, `name SADD`: the verb of a word, of one of 4,097 bytes, and of
 //!   bytes, with its text. `takes smembers 1`: whether one word may follow.
@@ -107,7 +107,7 @@ fn verb_text(verb: Option<Verb>) -> Text {
     }
 }
 
-/// So many words of one letter, and a space behind each.
+/// This number of words of one letter, and a space behind each.
 fn many_words(alloc: Global, words: &mut Line) -> Result<Vec<u8>, LineFault> {
     let mut out = Vec::new(alloc);
     for _ in 0..words.number()? {
