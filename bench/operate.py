@@ -312,7 +312,7 @@ def start(room):
         it.write("slots = 16\ncallers = 64\nsuccessors = 4\ntries = 5\nwait = 200\n")
         for place in range(8):
             it.write(f'[[node]]\nid = "{place * 2:x}{"0" * 31}"\nstore = "tree"\n')
-    words = "serve --port 0 --redis 0 --operator 0 --stay --slots 4096 --callers 64 --plan".split()
+    words = "serve --port 0 --redis 0 --operator 0 --stay --until-input-ends --slots 4096 --callers 64 --plan".split()
     server = subprocess.Popen(
         [PROGRAM, *words, plan], stdin=subprocess.PIPE, stdout=subprocess.PIPE, text=True
     )

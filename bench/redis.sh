@@ -47,7 +47,7 @@ start() {
     redis) redis-server --port $port --save '' --appendonly no > /dev/null & ;;
     chord)
         mkfifo "$room/input.$port"
-        crates/chord_app/out/chord_app serve --plan "$room/plan.toml" --redis $port --stay --callers 128 < "$room/input.$port" > /dev/null &
+        crates/chord_app/out/chord_app serve --plan "$room/plan.toml" --redis $port --stay --until-input-ends --callers 128 < "$room/input.$port" > /dev/null &
         exec {hold}> "$room/input.$port"
         ;;
     esac

@@ -34,7 +34,7 @@ class Server:
             it.write("slots = 16\ncallers = 64\nsuccessors = 4\ntries = 3\nwait = 100\n")
             for place in range(NODES):
                 it.write(f'[[node]]\nid = "{place:x}{"0" * 31}"\nstore = "tree"\n')
-        words = f"serve --port 0 --stay --callers {callers} --plan".split()
+        words = f"serve --port 0 --stay --until-input-ends --callers {callers} --plan".split()
         self.process = subprocess.Popen(
             [PROGRAM, *words, plan], stdin=subprocess.PIPE, stdout=subprocess.PIPE, text=True
         )

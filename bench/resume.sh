@@ -26,7 +26,7 @@ start() {
     port=$((port + 1)) hold=''
     rm -f "$room/input.$port"
     mkfifo "$room/input.$port"
-    $chord serve --plan "$room/plan.toml" --port $port --stay < "$room/input.$port" > /dev/null &
+    $chord serve --plan "$room/plan.toml" --port $port --stay --until-input-ends < "$room/input.$port" > /dev/null &
     server=$!
     exec {hold}> "$room/input.$port"
     for _ in $(seq 200); do

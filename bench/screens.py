@@ -130,7 +130,7 @@ def main():
         )
     with tempfile.TemporaryDirectory() as room:
         server = subprocess.Popen(
-            [program, "serve", "--plan", plan(room), "--port", "0", "--operator", "0", "--stay"],
+            [program, "serve", "--plan", plan(room), "--port", "0", "--operator", "0", "--stay", "--until-input-ends"],
             stdin=subprocess.PIPE, stdout=subprocess.PIPE, text=True,
         )
         ports = [server.stdout.readline().rsplit(":", 1)[1].strip() for _ in range(2)]

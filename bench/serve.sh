@@ -48,7 +48,7 @@ cell() {
     *)
         client=chord
         mkfifo "$room/input.$port"
-        crates/chord_app/out/chord_app serve --plan "$room/$1.toml" --port $port --stay < "$room/input.$port" > /dev/null &
+        crates/chord_app/out/chord_app serve --plan "$room/$1.toml" --port $port --stay --until-input-ends < "$room/input.$port" > /dev/null &
         exec {hold}> "$room/input.$port"
         ;;
     esac

@@ -7,9 +7,10 @@ It starts `chord serve --stay` over 16 nodes, where a request is tried 40 times,
 clients ask SISMEMBER of keys of the nodes that stay, for that long each time: alone; beside 1,000
 connections that send a byte a second; beside 100 that ask for 100 MB each and do not read; while a
 thousand connections a second come and go; and while node 15 has crashed and two more clients ask
-keys of it all the time. It tells the waits of the busy clients, and ends with a status other than 0
-where one of them was answered otherwise than by :0 or :1, where a slow connection was not answered,
-or where a key of the crashed node was.
+keys of it all the time. Nobody reads the lines of the server, whose pipe is full soon. It tells the
+waits of the busy clients, and ends with a status other than 0 where one of them was answered
+otherwise than by :0 or :1, where a slow connection was not answered, or where a key of the crashed
+node was.
 """
 import hashlib
 import http.client
@@ -20,7 +21,6 @@ import socket
 import subprocess
 import sys
 import tempfile
-import threading
 import time
 
 NODES, CRASHED = 16, 15
@@ -159,14 +159,13 @@ def main():
             it.write("slots = 16\ncallers = 64\nsuccessors = 4\ntries = 40\nwait = 100\n")
             for place in range(NODES):
                 it.write(f'[[node]]\nid = "{place:x}{"0" * 31}"\nstore = "tree"\n')
-        words = "serve --redis 0 --operator 0 --stay --callers 2048 --plan".split()
+        words = "serve --redis 0 --operator 0 --stay --until-input-ends --callers 2048 --plan".split()
         server = subprocess.Popen(
             [PROGRAM, *words, plan], stdin=subprocess.PIPE, stdout=subprocess.PIPE, text=True
         )
         try:
             first, second = server.stdout.readline(), server.stdout.readline()
             port, operator = (int(it.rsplit(":", 1)[1]) for it in (first, second))
-            threading.Thread(target=server.stdout.read, daemon=True).start()
             time.sleep(3)
             is_well = measure("alone", port, seconds, clients, [])
             is_well &= measure(f"beside {SLOW} slow ones", port, seconds, clients, [slow])
