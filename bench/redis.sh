@@ -11,7 +11,8 @@
 # without it, it has one. It tells its time in quarters of a second then, so give it requests for
 # some seconds. With PROCESSES=1 each connection is that of a redis-benchmark of its own, and a rate
 # is that of all, with their starts. With OTHER=PORT the server that is up there is measured in place
-# of ours, such as that of bench/idle.c. A ring does 1,000 rounds of upkeep once its nodes are there,
+# of ours, such as that of bench/idle.c. JOURNAL, which is always, second or never, gives each server a
+# file of its changes that is synced so. A ring does 1,000 rounds of upkeep once its nodes are there,
 # so its clients begin REST seconds later (3). It ends with a status other than 0 where a client was
 # answered otherwise than it says.
 set -euo pipefail
@@ -40,14 +41,27 @@ await() {
     echo "nobody listens" >&2 && exit 1
 }
 
+# The options for a file of changes.
+redis_file='--appendonly no' chord_file=''
+if [ -n "${JOURNAL-}" ]; then
+    policy=$JOURNAL
+    [ "$policy" != second ] || policy=everysec
+    [ "$policy" != never ] || policy=no
+    redis_file="--appendonly yes --appendfsync $policy --auto-aof-rewrite-percentage 0"
+    chord_file="--sync $JOURNAL --journal"
+fi
+
 # start SERVER: a new server at a port of its own. stop ends it.
 start() {
     port=$((port + 1)) hold=''
     case $1 in
-    redis) redis-server --port $port --save '' --appendonly no > /dev/null & ;;
+    redis)
+        mkdir "$room/$port"
+        redis-server --port $port --save '' --dir "$room/$port" $redis_file > /dev/null &
+        ;;
     chord)
         mkfifo "$room/input.$port"
-        crates/chord_app/out/chord_app serve --plan "$room/plan.toml" --redis $port --stay --until-input-ends --callers 128 < "$room/input.$port" > /dev/null &
+        crates/chord_app/out/chord_app serve --plan "$room/plan.toml" --redis $port --stay --until-input-ends --callers 128 ${chord_file:+$chord_file "$room/changes.$port"} < "$room/input.$port" > /dev/null &
         exec {hold}> "$room/input.$port"
         ;;
     esac

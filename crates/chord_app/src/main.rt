@@ -7,6 +7,7 @@
 //! `chord_app_options` says what a command line has, and [`Finish`] how the program ends.
 #![tactic(auto)]
 
+use chord_app_journal::{OpenedJournal, SyncRule, open_journal};
 use chord_app_options::{
     RingSource, commands, plan_path_of, print_fault, serve_line_of, start_ask, start_load,
     start_ring, stores_of,
@@ -14,7 +15,7 @@ use chord_app_options::{
 use chord_app_plan::{Plan, PlanFault, Settings, StoreKind, read_plan};
 use chord_app_serve::{ServerStores, open_files, run, serve, stay};
 use chord_app_sockets::{
-    ClientLimits, Doors, Host, OperatorPort, ProcessFiles, ServerSetup, listen,
+    ClientLimits, Doors, Host, JournalSetup, OperatorPort, ProcessFiles, ServerSetup, listen,
 };
 use chord_app_text::Finish;
 use chord_app_world::{empty_ones, world};
@@ -86,6 +87,9 @@ struct ServeOptions<'a> {
     limits: ClientLimits,
     /// Where it serves operators, if it does.
     operator: Option<OperatorDoor>,
+    /// Its journal, if it has one.
+    journal: Option<OpenedJournal>,
+    sync: SyncRule,
     notes: Logged<&'a HostRuntime, &'a HostRuntime>,
 }
 
@@ -97,6 +101,39 @@ impl ServeOptions<'_> {
             (Some(frames), None) => Some(Doors::Frames(frames)),
             (None, Some(redis)) => Some(Doors::Redis(redis)),
             (None, None) => None,
+        }
+    }
+
+    /// The journal of the server, if it has one.
+    fn journal(&self) -> Option<JournalSetup<'_>> {
+        match &self.journal {
+            Some(opened) => Some(JournalSetup {
+                opened,
+                rule: self.sync,
+            }),
+            None => None,
+        }
+    }
+}
+
+/// Opens a journal, if there is one. Prints why it can't be opened, and how much of it is cut off.
+fn journal_at(rt: &HostRuntime, path: Option<&str>) -> Result<Option<OpenedJournal>, Finish> {
+    let Some(path) = path else {
+        return Ok(None);
+    };
+    match open_journal(rt, path) {
+        Ok(opened) => {
+            let torn = opened.scanned.torn;
+            if torn > 0 {
+                eprintln!(rt;
+                    "journal: {torn} bytes behind the last whole command of {path} were cut off"
+                )?;
+            }
+            Ok(Some(opened))
+        }
+        Err(fault) => {
+            eprintln!(rt; "fault journal: {path} {fault}")?;
+            Err(Finish::Refused)
         }
     }
 }
@@ -241,6 +278,7 @@ fn serve_over<'a, T: Host>(
         settings,
         doors,
         operator: port_of(&options.operator),
+        journal: options.journal(),
         notes: &options.notes,
     };
     match options.connections {
@@ -301,6 +339,7 @@ fn start_serve<T: Host>(
         drop(plan);
         return Err(Finish::BadPlan);
     }
+    let journal = journal_at(rt, line.journal)?;
     let frames = listen_at(threads, line.port)?;
     let redis = listen_at(threads, line.redis)?;
     let operator = OperatorDoor::at(rt, threads, line.operator)?;
@@ -317,6 +356,8 @@ fn start_serve<T: Host>(
             buffers: line.buffers,
         },
         operator,
+        journal,
+        sync: line.sync,
         notes: Logged::new(rt, level, rt),
     };
     warn_of_files(rt, settings.callers)?;

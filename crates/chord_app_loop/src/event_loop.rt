@@ -88,6 +88,11 @@ pub(crate) struct EventLoop<'l, R, O, P: Protocol, S: Stream> {
     holds_back: bool,
     /// How many looks in a row found that all connections hold too much.
     over_looks: u64,
+    /// The connections whose answers wait until changes are written, up to the next mark.
+    held: Vec<usize>,
+    mark: u64,
+    /// Up to where they are written.
+    written: u64,
 }
 
 impl<'l, R, O, P: Protocol, S: Stream> EventLoop<'l, R, O, P, S> {
@@ -113,6 +118,9 @@ impl<'l, R, O, P: Protocol, S: Stream> EventLoop<'l, R, O, P, S> {
             looked: None,
             holds_back: false,
             over_looks: 0,
+            held: Vec::new(alloc),
+            mark: 0,
+            written: 0,
         })
     }
 
@@ -417,7 +425,8 @@ impl<R: Clock, O: Owner<P, S>, P: Protocol + Drop, S: Stream + AsRawFd + Drop> E
     fn drive(&mut self, key: usize) {
         let driven = match self.places.get_mut(key) {
             Some(Place::Served(seat)) => {
-                let driven = seat.drive(&mut self.buffer, self.setting.owner.budget());
+                let owner = self.setting.owner;
+                let driven = seat.drive(&mut self.buffer, owner.budget(), owner, self.written);
                 self.holds_back |= seat.is_held_back;
                 driven
             }
@@ -428,21 +437,65 @@ impl<R: Clock, O: Owner<P, S>, P: Protocol + Drop, S: Stream + AsRawFd + Drop> E
         match driven {
             Driven::Rests => {}
             Driven::Again => self.go_on_later(key),
-            Driven::Waits => {
-                if !self.is_scheduled(key) && !self.schedule(key) {
-                    self.stop_waiting(key);
-                    self.go_on_later(key);
-                }
-            }
+            Driven::Waits => self.wait_for(key),
+            Driven::Held => self.hold(key),
             Driven::Holds => self.end_at(key, Ended::Served(Served::Memory)),
             Driven::Ended(ended) => self.end_at(key, ended),
+        }
+    }
+
+    /// Has the request of this connection that waits tried again later.
+    fn wait_for(&mut self, key: usize) {
+        if !self.is_scheduled(key) && !self.schedule(key) {
+            self.stop_waiting(key);
+            self.go_on_later(key);
+        }
+    }
+
+    /// Has the answers of this connection written once changes are.
+    fn hold(&mut self, key: usize) {
+        let Some(Place::Served(seat)) = self.places.get_mut(key) else {
+            return;
+        };
+        self.mark = self.mark.max(seat.mark());
+        let (waits, was_held) = (seat.waits(), seat.is_held);
+        seat.is_held = true;
+        if !was_held && self.held.push(key).is_err() {
+            self.end_at(key, Ended::Served(Served::Memory));
+        } else if waits {
+            self.wait_for(key);
+        }
+    }
+
+    /// Drives a connection whose answers waited until changes were written.
+    fn drive_held(&mut self, key: usize) {
+        if let Some(Place::Served(seat)) = self.places.get_mut(key) {
+            seat.is_held = false;
+        }
+        self.drive(key);
+    }
+
+    /// Has changes written for those that wait, and then their answers: all that came in one round
+    /// wait for one write.
+    fn settle(&mut self) {
+        if self.held.is_empty() {
+            return;
+        }
+        let before = self.written;
+        self.written = self.setting.owner.settle(self.mark);
+        if self.written == before {
+            return;
+        }
+        let none = Vec::new(self.alloc);
+        for key in mem::replace(&mut self.held, none) {
+            self.drive_held(key);
         }
     }
 
     /// Tries the request of this connection that waits for the last time.
     fn stop_waiting(&mut self, key: usize) {
         if let Some(Place::Served(seat)) = self.places.get_mut(key) {
-            seat.stop_waiting();
+            seat.stop_waiting(self.setting.owner);
         }
     }
 
@@ -488,7 +541,8 @@ impl<R: Clock, O: Owner<P, S>, P: Protocol + Drop, S: Stream + AsRawFd + Drop> E
     fn drive_late(&mut self, now: Instant, time: Instant, key: usize) {
         match self.places.get_mut(key) {
             Some(Place::Served(seat)) if seat.time == Some(time) => {
-                seat.try_again(now, self.setting.loops.rules.patience);
+                let patience = self.setting.loops.rules.patience;
+                seat.try_again(now, patience, self.setting.owner);
                 self.drive(key);
             }
             Some(Place::Begins(guest)) if guest.time == Some(time) => {
@@ -597,7 +651,7 @@ impl<R: Clock, O: Owner<P, S>, P: Protocol + Drop, S: Stream + AsRawFd + Drop> E
         for key in 0..self.places.capacity() {
             match self.places.get_mut(key) {
                 Some(Place::Served(seat)) => {
-                    seat.note_end();
+                    seat.note_end(self.setting.owner);
                     self.drive(key);
                 }
                 Some(Place::Begins(guest)) => {
@@ -621,6 +675,7 @@ impl<R: Clock, O: Owner<P, S>, P: Protocol + Drop, S: Stream + AsRawFd + Drop> E
             Coming::Given(seat) => {
                 let mut seat = seat;
                 seat.time = None;
+                seat.is_held = false;
                 if let Some(key) = self.keep(seat.as_raw_fd(), Place::Served(seat)) {
                     self.drive(key);
                 }
@@ -690,6 +745,7 @@ impl<R: Wait + Clock, O: Owner<P, S>, P: Protocol + Drop, S: Stream + AsRawFd + 
             self.drive_ready();
             self.drive_again();
             self.drive_due();
+            self.settle();
             self.look();
         }
     }

@@ -3,7 +3,7 @@
 use crate::budget::Budget;
 use crate::guest::Guest;
 use chord_app_sockets::Ended;
-use chord_serve::{Link, Protocol, Stream};
+use chord_serve::{Link, Marks, Protocol, Stream};
 
 /// What becomes of a connection that begins.
 #[derive(Drop)]
@@ -18,8 +18,9 @@ pub enum Met<P: Protocol, S: Stream> {
     Ended(Ended),
 }
 
-/// Says what connections become, and hears how they end.
-pub trait Owner<P: Protocol, S: Stream> {
+/// Says what connections become, and hears how they end. Its marks are those of the changes that
+/// answers may show.
+pub trait Owner<P: Protocol, S: Stream>: Marks {
     /// What becomes of a connection that begins. It is met before anything is read, and again once
     /// more came, its input ended, or it was silent for a second.
     fn meet(&self, guest: &Guest<S>) -> Met<P, S>;
@@ -35,4 +36,10 @@ pub trait Owner<P: Protocol, S: Stream> {
 
     /// How much its connections may hold.
     fn budget(&self) -> &Budget;
+
+    /// Has changes written up to this mark, for answers that wait for it. Says up to where they are
+    /// written: where that is less, the loops are woken once it is more.
+    fn settle(&self, _mark: u64) -> u64 {
+        u64::MAX
+    }
 }

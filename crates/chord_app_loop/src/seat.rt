@@ -7,7 +7,7 @@ ghost use Rattle.chord_serve.specs.declared.served.Served.{Served as ServedOf};
 use crate::budget::{Budget, SMALL_BYTES};
 use crate::rules::Rules;
 use chord_app_sockets::Ended;
-use chord_serve::{Link, Protocol, Served, Stream};
+use chord_serve::{Link, Marks, Protocol, Served, Stream};
 use mio::event::Event;
 use std::io::ErrorKind;
 use std::net::TcpStream;
@@ -33,6 +33,8 @@ pub(crate) enum Driven {
     Again,
     /// Once it is tried again.
     Waits,
+    /// Once changes are written up to its mark.
+    Held,
     /// It holds too much, and is to be ended.
     Holds,
     /// It ended so.
@@ -101,6 +103,8 @@ pub(crate) struct Seat<P: Protocol, S: Stream> {
     is_ending: bool,
     /// Whether it is not read, since all connections hold too much.
     pub is_held_back: bool,
+    /// Whether its loop writes its answers once changes are written.
+    pub is_held: bool,
 }
 
 impl<P: Protocol, S: Stream> Seat<P, S> {
@@ -121,6 +125,7 @@ impl<P: Protocol, S: Stream> Seat<P, S> {
             held: 0,
             is_ending: false,
             is_held_back: false,
+            is_held: false,
         }
     }
 
@@ -133,15 +138,20 @@ impl<P: Protocol, S: Stream> Seat<P, S> {
     }
 
     /// Tries the request that waits for the last time.
-    pub fn stop_waiting(&mut self) {
-        self.link.stop_waiting();
+    pub fn stop_waiting<M: Marks>(&mut self, marks: &M) {
+        self.link.stop_waiting(marks);
+    }
+
+    /// Up to where changes must be written before its answers may be.
+    pub fn mark(&self) -> u64 {
+        self.link.mark()
     }
 
     /// Notes that its input ends. The request that waits is tried for the last time.
-    pub fn note_end(&mut self) {
+    pub fn note_end<M: Marks>(&mut self, marks: &M) {
         self.is_ending = true;
         self.may_read = true;
-        self.link.stop_waiting();
+        self.link.stop_waiting(marks);
     }
 
     /// Notes a look in which nothing came. Says whether its client was silent in more than these.
@@ -170,12 +180,17 @@ impl<P: Protocol, S: Stream> Seat<P, S> {
         }
     }
 
+    /// Whether there are answers that wait until changes are written.
+    fn holds_answers(&self, written: u64) -> bool {
+        self.link.wants_write() && !self.link.may_write(written)
+    }
+
     /// Writes once, if there is something to write. Says how many bytes were written.
-    fn write(&mut self) -> usize {
-        if !self.may_write || !self.link.wants_write() {
+    fn write(&mut self, written: u64) -> usize {
+        if !self.may_write || !self.link.wants_write() || !self.link.may_write(written) {
             return 0;
         }
-        match self.link.write_to() {
+        match self.link.write_to(written) {
             Ok(count) => {
                 self.looks = 0;
                 count
@@ -188,15 +203,15 @@ impl<P: Protocol, S: Stream> Seat<P, S> {
     }
 
     /// How it ended, if it did: all is written then, or its client takes no more. A request that
-    /// waits then is left.
-    fn ended(&self) -> Option<Ended>
+    /// waits then is left, and so are answers that wait until changes are written.
+    fn ended(&self, written: u64) -> Option<Ended>
         ensures over { (end : EndedOf) → result ≡ Some end → (self.now.is_shut ≡ true)
             ⊎ ((self.now.link.machine.is_lost ≡ true) ⊎ (self.now.link.machine.due ≡ [])) }
         ensures done { result ≡ None → (self.now.link.machine.is_lost ≡ false)
             × ((end : ServedOf) → self.now.link.machine.stage ≡ Over end
             → self.now.link.machine.due ≢ []) }
     {
-        if self.is_shut && self.link.waits() {
+        if self.is_shut && (self.link.waits() || self.holds_answers(written)) {
             return Some(Ended::Served(Served::Write));
         }
         if self.link.is_done() {
@@ -209,10 +224,10 @@ impl<P: Protocol, S: Stream> Seat<P, S> {
     }
 
     /// Whether it has more to do at once.
-    fn goes_on(&self) -> bool {
+    fn goes_on(&self, written: u64) -> bool {
         self.link.wants_advance()
             || (self.may_read && !self.is_held_back && self.link.wants_read())
-            || (self.may_write && self.link.wants_write())
+            || (self.may_write && self.link.wants_write() && self.link.may_write(written))
     }
 
     /// Tells the budget what it holds now.
@@ -227,14 +242,21 @@ impl<P: Protocol, S: Stream> Seat<P, S> {
         self.held = held;
     }
 
-    /// Reads, answers and writes, for some rounds, within what all connections may hold.
-    pub fn drive(&mut self, buffer: &mut [u8], budget: &Budget) -> Driven
+    /// Reads, answers and writes, for some rounds, within what all connections may hold. Changes are
+    /// written up to this mark.
+    pub fn drive<M: Marks>(
+        &mut self,
+        buffer: &mut [u8],
+        budget: &Budget,
+        marks: &M,
+        written: u64,
+    ) -> Driven
         // All is written where it ended, or its client takes no more.
         ensures over { (end : EndedOf) → result ≡ Driven.Ended end → (self.new.is_shut ≡ true)
             ⊎ ((self.new.link.machine.is_lost ≡ true) ⊎ (self.new.link.machine.due ≡ [])) }
     {
         self.is_held_back = self.held > SMALL_BYTES && budget.is_over() && !self.is_ending;
-        let driven = self.drive_rounds(buffer);
+        let driven = self.drive_rounds(buffer, marks, written);
         self.count(budget);
         if self.held > SMALL_BYTES && budget.is_far_over() && !matches!(driven, Driven::Ended(_)) {
             return Driven::Holds;
@@ -242,27 +264,36 @@ impl<P: Protocol, S: Stream> Seat<P, S> {
         driven
     }
 
+    /// How it goes on that has no more to do at once.
+    fn rests(&self, written: u64) -> Driven
+        ensures { (end : EndedOf) → result ≢ Driven.Ended end }
+    {
+        if self.holds_answers(written) {
+            Driven::Held
+        } else if self.link.waits() {
+            Driven::Waits
+        } else {
+            Driven::Rests
+        }
+    }
+
     /// Reads, answers and writes, for some rounds.
-    fn drive_rounds(&mut self, buffer: &mut [u8]) -> Driven
+    fn drive_rounds<M: Marks>(&mut self, buffer: &mut [u8], marks: &M, written: u64) -> Driven
         ensures over { (end : EndedOf) → result ≡ Driven.Ended end → (self.new.is_shut ≡ true)
             ⊎ ((self.new.link.machine.is_lost ≡ true) ⊎ (self.new.link.machine.due ≡ [])) }
     {
-        let mut written: usize = 0;
+        let mut sent: usize = 0;
         for _ in 0..MOST_ROUNDS {
             self.read(buffer);
-            self.link.advance();
-            written = written.saturating_add(self.write());
-            if let Some(ended) = self.ended() {
+            self.link.advance(marks);
+            sent = sent.saturating_add(self.write(written));
+            if let Some(ended) = self.ended(written) {
                 return Driven::Ended(ended);
             }
-            if !self.goes_on() {
-                return if self.link.waits() {
-                    Driven::Waits
-                } else {
-                    Driven::Rests
-                };
+            if !self.goes_on(written) {
+                return self.rests(written);
             }
-            if written > MOST_BYTES {
+            if sent > MOST_BYTES {
                 return Driven::Again;
             }
         }
@@ -286,12 +317,17 @@ impl<P: Protocol, S: Stream> Seat<P, S> {
     }
 
     /// Tries the request that waits once more, for the last time if its time is over.
-    pub fn try_again(&mut self, now: Instant, patience: Duration) {
+    pub fn try_again<M: Marks>(&mut self, now: Instant, patience: Duration, marks: &M) {
         self.time = None;
         match self.waits_since {
-            Some(since) if now.duration_since(since) < patience => self.link.try_again(),
-            _ => self.link.stop_waiting(),
+            Some(since) if now.duration_since(since) < patience => self.link.try_again(marks),
+            _ => self.link.stop_waiting(marks),
         }
+    }
+
+    /// Whether its next request waits for its answer.
+    pub fn waits(&self) -> bool {
+        self.link.waits()
     }
 }
 
@@ -320,6 +356,7 @@ impl<P: Protocol, S: Stream + Drop> Seat<P, S> {
             held: _,
             is_ending: _,
             is_held_back: _,
+            is_held: _,
         } = self;
         (number, stream, link.into_protocol())
     }

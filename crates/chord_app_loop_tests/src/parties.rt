@@ -4,7 +4,7 @@ use crate::askers::LateAsker;
 use chord_app_loop::{Budget, Guest, Loops, Met, Owner, Rules, Socket};
 use chord_app_sockets::{Clients, Ended};
 use chord_resp_serve::{CommandProtocol, Informs, ServerInfo};
-use chord_serve::{Link, ReadSize, Served};
+use chord_serve::{Link, Marks, ReadSize, Served};
 use std::alloc::{AllocError, Global};
 use std::net::{Net, TcpListener, TcpStream};
 use std::os::fd::AsRawFd;
@@ -71,6 +71,12 @@ impl<'t, R: Wait> House<'t, R> {
     pub fn end_of(&self, number: u64) -> Option<Ended> {
         let ends = self.ends.lock(self.rt);
         ends.iter().find(|end| end.0 == number).map(|end| end.1)
+    }
+}
+
+impl<R> Marks for House<'_, R> {
+    fn mark(&self) -> u64 {
+        0
     }
 }
 

@@ -1,6 +1,7 @@
 //! Many links at once, each over a stream of its own. A seed says what comes when, how it is cut,
-//! which write is short, which requests wait for how many tries, and how each connection ends. What
-//! a link wrote, and how it ended, is compared with what a plain table of pairs says.
+//! which write is short, which requests wait for how many tries, when changes are made and when they
+//! are written, and how each connection ends. What a link wrote, and how it ended, is compared with
+//! what a plain table of pairs says.
 //!
 //! The variable `SEEDS` of the environment says how many seeds a run goes through.
 
@@ -15,7 +16,7 @@ mod talk;
 use crate::parties::Silent;
 use asker::SlowAsker;
 use chord_resp_serve::{CommandProtocol, ServerInfo};
-use chord_serve::{ClientSession, FrameProtocol, Link, Parted, Protocol, Stream};
+use chord_serve::{ClientSession, FrameProtocol, Link, Marks, Parted, Protocol, Stream};
 use chord_wire::SessionFrames;
 use commands::commands;
 use device::Device;
@@ -37,22 +38,38 @@ const PATIENCE: u32 = 4;
 /// How many things the driver does at most for one seed.
 const MOST_STEPS: u64 = 100_000;
 
-/// Does one thing with a link.
+/// Changes that are made, and written a while later.
+#[derive(Drop)]
+struct Changes {
+    made: u64,
+    written: u64,
+}
+
+impl Marks for Changes {
+    fn mark(&self) -> u64 {
+        self.made
+    }
+}
+
+/// Does one thing with a link, or with the changes.
 fn step<P: Protocol + Drop, S: Stream + Drop>(
     link: &mut Link<P, S>,
+    changes: &mut Changes,
     dice: &mut Dice,
     buffer: &mut [u8],
 ) {
-    match dice.below(4) {
+    match dice.below(6) {
         0 => {
             let _ = link.read_from(buffer).is_ok();
         }
         1 => {
-            let _ = link.write_to().is_ok();
+            let _ = link.write_to(changes.written).is_ok();
         }
-        2 => link.advance(),
-        _ if link.tries() < PATIENCE => link.try_again(),
-        _ => link.stop_waiting(),
+        2 => link.advance(changes),
+        3 => changes.made = changes.made.saturating_add(1),
+        4 => changes.written = changes.made,
+        _ if link.tries() < PATIENCE => link.try_again(changes),
+        _ => link.stop_waiting(changes),
     }
 }
 
@@ -62,12 +79,16 @@ fn drive_all<P: Protocol + Drop, S: Stream + Drop>(
     dice: &mut Dice,
 ) -> bool {
     let mut buffer = [0u8; 64];
+    let mut changes = Changes {
+        made: 0,
+        written: 0,
+    };
     for _ in 0..MOST_STEPS {
         let most = dice.up_to(64);
         let place = dice.below(LINKS as u64) as usize;
         if let Some(link) = links.get_mut(place) {
             if !link.is_done() {
-                step(link, dice, &mut buffer[..most.min(64)]);
+                step(link, &mut changes, dice, &mut buffer[..most.min(64)]);
             }
         }
     }

@@ -6,7 +6,8 @@ use crate::faults::fault_of;
 use crate::number::{NumberOption, WrongNumber};
 use crate::parts::{flag, with_argument, with_group, with_made_argument, with_numbers};
 use crate::shared::plan_option;
-use clap::{ArgGroup, ArgMatches, Command};
+use chord_app_journal::SyncRule;
+use clap::{Arg, ArgGroup, ArgMatches, Command};
 use std::alloc::{AllocError, Global};
 
 const PORT: NumberOption = NumberOption {
@@ -104,6 +105,15 @@ const BUFFERS: NumberOption = NumberOption {
 /// clients, and few enough that most systems let the process have as many files.
 const CALLERS_WITHOUT_PLAN: usize = 512;
 
+/// The help of `--journal`.
+const JOURNAL: &str = "If it stays: the file that keeps all changes, loaded at the start";
+
+/// The words of `--sync`.
+const SYNC_WORDS: &[&str] = &["always", "second", "never"];
+
+/// The help of `--sync`.
+const SYNC: &str = "When the journal is brought to the disk, else second";
+
 /// The help of `--stay`.
 const STAY: &str = "Serves until it is stopped, as without --connections";
 
@@ -146,6 +156,24 @@ fn until_group<'a>(alloc: Global) -> Result<ArgGroup<'a>, AllocError> {
         .arg("stay")
 }
 
+/// The option for the file of a journal.
+fn journal_option<'a>(alloc: Global) -> Result<Arg<'a>, AllocError> {
+    Arg::new(alloc, "journal")
+        .long("journal")
+        .value_name("FILE")
+        .help(JOURNAL)
+        .conflicts_with("connections")
+}
+
+/// The option for when a journal is synced.
+fn sync_option<'a>(alloc: Global) -> Arg<'a> {
+    Arg::new(alloc, "sync")
+        .long("sync")
+        .value_name("WHEN")
+        .value_parser(SYNC_WORDS)
+        .help(SYNC)
+}
+
 /// The command `serve` and its arguments.
 pub fn serve_command<'a>(alloc: Global) -> Result<Command<'a>, AllocError> {
     let serve = Command::new(alloc, "serve")
@@ -161,6 +189,8 @@ pub fn serve_command<'a>(alloc: Global) -> Result<Command<'a>, AllocError> {
         serve,
         &[IDLE, KEEP, OPERATOR, SLOTS, CALLERS, BUFFERS],
     );
+    let serve = with_made_argument(serve, journal_option(alloc));
+    let serve = with_argument(serve, sync_option(alloc));
     let serve = with_group(serve, ports_group(alloc));
     let serve = with_group(serve, nodes_group(alloc));
     with_group(serve, until_group(alloc))
@@ -202,6 +232,10 @@ pub struct ServeLine<'a> {
     pub buffers: u64,
     /// Whether each connection's end is noted on standard error.
     pub notes: bool,
+    /// The path of the journal, if there is one.
+    pub journal: Option<&'a str>,
+    /// When it is brought to the disk.
+    pub sync: SyncRule,
 }
 
 /// A port, if the command line has it.
@@ -253,6 +287,15 @@ fn callers_at<'a>(
     }
 }
 
+/// When a journal is brought to the disk: each second if the command line does not say.
+fn sync_at(found: &ArgMatches) -> SyncRule {
+    match found.get_str("sync") {
+        Some("always") => SyncRule::Always,
+        Some("never") => SyncRule::Never,
+        _ => SyncRule::Second,
+    }
+}
+
 fn read<'a>(found: &ArgMatches<'a>) -> Result<ServeLine<'a>, WrongNumber<'a>>
     ensures { IfOk result (λ line. IsSource line.ring) }
 {
@@ -273,6 +316,8 @@ fn read<'a>(found: &ArgMatches<'a>) -> Result<ServeLine<'a>, WrongNumber<'a>>
             .unwrap_or(BUFFER_MEGABYTES)
             .saturating_mul(MEGABYTE),
         notes: found.get_flag("notes"),
+        journal: found.get_str("journal"),
+        sync: sync_at(found),
     })
 }
 

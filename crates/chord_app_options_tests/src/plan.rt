@@ -8,7 +8,7 @@
 //!   one, by `file` from a file.
 //! - `two` is the plan of two nodes; `change slots = 2 => slots = 3` that plan, changed at the first
 //!   such place; `cut slots = 2|` without that; `behind [[ask]]|` with that behind it; `long 9000`
-//!   filled up to so many bytes with ends of lines. `nodeless ask = 3|` is a plan without nodes,
+//!   that filled up to 9,000 bytes with ends of lines. `nodeless ask = 3|` is a plan without nodes,
 //!   with that behind it; `whole a = 3|` that alone; `other` another plan.
 //!
 //! Beside these are `failing` and `missing`, a reader that fails and a file that is not there,

@@ -11,10 +11,10 @@ use crate::plan_run::asking::{Answers, AskResults, CallerAnswers, FreshClient, a
 pub use asking::AskResult;
 use chord_app_plan::Plan;
 use chord_app_text::Finish;
-use chord_live_ring::{NewFault, ReturnedCaller, Ring, RingParts};
+use chord_live_ring::{NewFault, Ring, RingParts};
 use chord_live_types::Settings;
 use chord_store::EntryStore;
-use chord_table::Naming;
+use chord_table::{CallerSeat, Naming};
 use std::alloc::Global;
 use std::io::{self, BufWriter, Write};
 use std::marker::Brand;
@@ -27,12 +27,12 @@ use std::time::Clock;
 #[derive(Drop)]
 struct RunAnswers<J: Naming> {
     all: Vec<AskResults>,
-    callers: Vec<ReturnedCaller<J>>,
+    callers: Vec<CallerSeat<J>>,
 }
 
 impl<J: Naming> RunAnswers<J> {
     /// Adds a caller, if it is one.
-    fn add_caller(&mut self, caller: Option<ReturnedCaller<J>>) -> Result<(), Finish>
+    fn add_caller(&mut self, caller: Option<CallerSeat<J>>) -> Result<(), Finish>
         ensures callers { OnOk result (map caller_in self.new.callers.items ≡ map caller_in self.old.callers.items ++ callers_in caller) }
         ensures all { self.new.all.items ≡ self.old.all.items }
     {

@@ -8,6 +8,7 @@ pub mod frames;
 pub mod idle;
 pub mod info;
 pub mod joining;
+pub mod journal;
 pub mod operating;
 pub mod operator;
 pub mod pairs;

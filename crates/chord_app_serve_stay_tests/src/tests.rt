@@ -1,6 +1,7 @@
 //! Tests, by what they look at.
 
 mod busy;
+mod journals;
 mod lasting;
 mod redis;
 mod redis_hostile;

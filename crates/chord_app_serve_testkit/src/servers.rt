@@ -141,6 +141,7 @@ fn serve_on<'a, R: Host, L: Log + Sync>(
         settings,
         doors,
         operator,
+        journal: None,
         notes,
     };
     let has_its_callers = match ending {

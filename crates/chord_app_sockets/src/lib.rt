@@ -24,6 +24,6 @@ pub use host::Host;
 pub use lines::Lines;
 pub use once_per_second::OncePerSecond;
 pub use process_files::ProcessFiles;
-pub use setup::{OperatorPort, ServerSetup, listen};
+pub use setup::{JournalSetup, OperatorPort, ServerSetup, listen};
 pub use stop::Stop;
 pub use until::{ClientLimits, Until};

@@ -4,6 +4,7 @@ ghost use Rattle.std.specs.declared.io.ErrorKind.{ErrorKind};
 
 use crate::doors::Doors;
 use crate::process_files::ProcessFiles;
+use chord_app_journal::{OpenedJournal, SyncRule};
 use chord_app_plan::Plan;
 use chord_app_text::{Fault, Finish};
 use chord_live_types::Settings;
@@ -21,6 +22,13 @@ pub struct OperatorPort<'a> {
     pub process: Option<&'a ProcessFiles>,
 }
 
+/// The journal of a server.
+#[derive(Clone, Copy)]
+pub struct JournalSetup<'a> {
+    pub opened: &'a OpenedJournal,
+    pub rule: SyncRule,
+}
+
 /// A plan, the settings of the ring, where clients and operators connect, and where to log how
 /// connections end.
 #[derive_where(Clone, Copy)]
@@ -32,6 +40,8 @@ pub struct ServerSetup<'a, L> {
     pub doors: Doors<'a>,
     /// None if there is no operator. Only a server that stays has one.
     pub operator: Option<OperatorPort<'a>>,
+    /// None if there is no journal.
+    pub journal: Option<JournalSetup<'a>>,
     pub notes: &'a L,
 }
 

@@ -15,7 +15,7 @@ use crate::last_key::LastKey;
 use crate::route::{Route, Way};
 use chord_caller::ClientCore;
 use chord_ident::Id;
-use chord_live_ring::{Carried, ReturnedCaller, Ring};
+use chord_live_ring::{Carried, Ring};
 use chord_live_steps::{AskingCore, Keyed, SeatedCore, Target};
 use chord_live_types::{AskFault, BeginFault, RetryFault, WaitFault};
 use chord_map::{Reply, Request};
@@ -122,11 +122,10 @@ impl<'a, J: Naming, S: EntryStore, C: AskingCore> RingCaller<'a, J, S, C> {
 
     /// The caller's seat, to be given back to the ring when that ends. Replies that it keeps are
     /// dropped.
-    pub fn into_returned(self) -> ReturnedCaller<J>
+    pub fn into_seat(self) -> CallerSeat<J>
         ensures { result ≡ self.entry }
     {
-        let (number, seat) = self.own.into_seat();
-        ReturnedCaller::new(number, seat)
+        self.own.into_seat()
     }
 
     /// A witness of the caller as it is now. One look of joined witnesses proves something of all

@@ -54,15 +54,6 @@ pub departs_so : (departure : Departure) (seat : NodeSight) → departed departu
 departs_so (Crash number) seat = refl
 departs_so (Retire number) seat = refl
 
--- it keeps its number
-gone_number : (gone : Bool) (node : Node) → (gone_if gone node).number ≡ node.number
-gone_number true node = refl
-gone_number false node = refl
-
-pub number_after : (departure : Departure) (node : Node) → (node_after departure node).number ≡ node.number
-number_after (Crash number) node = refl
-number_after (Retire number) node = gone_number (number == node.number) node
-
 -- a node that is not the one that departs stays as it is
 pub stays_node : (departure : Departure) (node : Node) → number_of departure ≢ node.number → node ≡ node_after departure node
 stays_node (Crash number) node apart = refl
@@ -141,9 +132,6 @@ module _ (taken : List Sight) (seat : NodeSight) (is : last_of taken ≡ as_acto
   last_node =
       let e : (last_of taken).actor ≡ OfNode seat.node seat.crashed = ap (λ (s : Sight). s.actor) is in
       e ∙ ap (λ (a : Actor). OfNode (node_in a) (crashed_in a)) (sym e)
-
-  pub last_number : (at : ℕ) → seat.node.number ≡ at → at ≡ (node_in (last_of taken).actor).number
-  last_number at same = sym same ∙ ap (λ (s : Sight). (node_in s.actor).number) (sym is)
 
   pub back_shows : (back : NodeSight) (node : Node) (crashed : Bool) → back ≡ as_node (last_of taken) → node ≡ seat.node → crashed ≡ seat.crashed → IsSeatOf node crashed (Some back)
   back_shows back node crashed gives mine out = (

@@ -1,4 +1,3 @@
-pub mod Closings
 pub mod Deeds
 pub mod Departures
 pub mod Journals

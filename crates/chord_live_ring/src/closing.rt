@@ -1,18 +1,15 @@
 //! The end of a ring: all its seats at one moment.
-ghost use Rattle.std.specs.Prelude.{◌≡◌, ◌+◌, ◌++◌, [], ◌∷◌, map, true};
-ghost use Rattle.std.specs.List.Sorted.{IsPermutation};
+ghost use Rattle.std.specs.Prelude.{◌≡◌, ℕ, ◌+◌, ◌++◌, [], ◌∷◌, Some, length, map, true};
 ghost use Rattle.chord_live_steps.specs.Counts.{numbers_below};
-ghost use Rattle.chord_live_ring.specs.Closings.{AreInOrder};
 ghost use Rattle.chord_table.specs.Shown.{AssemblyShown, WholeShown};
-ghost use Rattle.chord_table.specs.Views.{CallerSight, callers_among};
+ghost use Rattle.chord_table.specs.Views.{CallerSight, callers_among, nodes_among};
 
 use crate::register::Register;
-use crate::returned_caller::ReturnedCaller;
 use crate::ring::Ring;
 use crate::seated_node::SeatedNode;
 use crate::slot::{Slot, SlotState};
 use chord_store::EntryStore;
-use chord_table::{Naming, Registrar, Shared};
+use chord_table::{CallerSeat, Naming, Registrar, Shared};
 
 /// The seats of a ring that ended: all its nodes, and the callers that were given back.
 #[derive(Drop)]
@@ -22,24 +19,34 @@ pub struct Closed<J: Naming> {
     pub is_whole: bool,
 }
 
-/// The seats that were taken in so far.
+/// The seats that were taken in so far, with how many are of nodes and of callers, if that can be
+/// counted.
 #[derive(Drop)]
 struct Gathering<J: Naming> {
     seats: Registrar<J>,
-    nodes: u64,
-    callers: u64,
-    /// Whether each had the number after the one before, from 0 on.
-    is_in_order: bool,
-    ghost ordered: { is_in_order ≡ true → AreInOrder nodes callers seats.taken },
+    nodes: Option<u64>,
+    callers: Option<u64>,
+    ghost nodes_are: { (n : ℕ) → nodes ≡ Some n → length (nodes_among seats.taken) ≡ n },
+    ghost callers_are: { (n : ℕ) → callers ≡ Some n → length (callers_among seats.taken) ≡ n },
 }
 
-/// Whether the numbers are still in order after this one, and their count then.
-fn next_count(is_in_order: bool, count: u64, number: u64) -> (bool, u64)
-    ensures { result.0 ≡ true → (is_in_order ≡ true) × (number ≡ count) × (result.1 ≡ count + 1) }
+/// The next count, if there is one.
+fn one_more(count: Option<u64>) -> Option<u64>
+    ensures { (n : ℕ) → result ≡ Some n → (before : ℕ) × (count ≡ Some before) × (before + 1 ≡ n) }
 {
-    match count.checked_add(1) {
-        Some(next) => (is_in_order && number == count, next),
-        None => (false, 0),
+    match count {
+        Some(before) => before.checked_add(1),
+        None => None,
+    }
+}
+
+/// Whether the count is this.
+fn is_count(count: Option<u64>, all: u64) -> bool
+    ensures { result ≡ true → count ≡ Some all }
+{
+    match count {
+        Some(n) => n == all,
+        None => false,
     }
 }
 
@@ -51,9 +58,8 @@ impl<J: Naming> Gathering<J> {
     {
         Gathering {
             seats: registrar,
-            nodes: 0,
-            callers: 0,
-            is_in_order: true,
+            nodes: Some(0),
+            callers: Some(0),
         }
     }
 
@@ -62,23 +68,17 @@ impl<J: Naming> Gathering<J> {
         ensures register { self.new.seats.register ≡ self.old.seats.register }
         ensures callers { callers_among self.new.seats.taken ≡ callers_among self.old.seats.taken }
     {
-        let number = seated.number();
         self.seats.take_node(table, seated.into_seat());
-        let (is_in_order, nodes) = next_count(self.is_in_order, self.nodes, number);
-        self.is_in_order = is_in_order;
-        self.nodes = nodes;
+        self.nodes = one_more(self.nodes);
     }
 
     /// Takes in the seat of a caller.
-    fn take_caller(&mut self, table: &Shared<J>, caller: ReturnedCaller<J>)
+    fn take_caller(&mut self, table: &Shared<J>, caller: CallerSeat<J>)
         ensures register { self.new.seats.register ≡ self.old.seats.register }
         ensures callers { callers_among self.new.seats.taken ≡ callers_among self.old.seats.taken ++ caller.caller ∷ [] }
     {
-        let ReturnedCaller { number, seat } = caller;
-        self.seats.take_caller(table, seat);
-        let (is_in_order, callers) = next_count(self.is_in_order, self.callers, number);
-        self.is_in_order = is_in_order;
-        self.callers = callers;
+        self.seats.take_caller(table, caller);
+        self.callers = one_more(self.callers);
     }
 
     /// Takes in the seat of the node in a slot, if there is one.
@@ -114,7 +114,7 @@ impl<J: Naming> Gathering<J> {
     }
 
     /// Takes in the seats of these callers.
-    fn take_callers(&mut self, table: &Shared<J>, callers: Vec<ReturnedCaller<J>>)
+    fn take_callers(&mut self, table: &Shared<J>, callers: Vec<CallerSeat<J>>)
         ensures register { self.new.seats.register ≡ self.old.seats.register }
         ensures callers { callers_among self.new.seats.taken ≡ callers_among self.old.seats.taken ++ map (λ (c : CallerSight). c.caller) callers.items }
     {
@@ -123,8 +123,8 @@ impl<J: Naming> Gathering<J> {
         }
     }
 
-    /// Looks at all seats. They are whole if they are the ring's `nodes` nodes and `callers`
-    /// callers, each kind by rising number.
+    /// Looks at all seats. They are whole if they are as many as the ring's nodes and callers.
+    #[tactic(auto, using(crate::proofs::Gathering::whole_counted))]
     fn finish(self, table: &Shared<J>, nodes: u64, callers: u64) -> Closed<J>
         requires nodes { self.seats.register.nodes ≡ numbers_below nodes }
         requires callers { self.seats.register.callers ≡ numbers_below callers }
@@ -132,7 +132,7 @@ impl<J: Naming> Gathering<J> {
         ensures shown { AssemblyShown result.seats }
         ensures whole { result.is_whole ≡ true → WholeShown result.seats }
     {
-        let is_whole = self.is_in_order && self.nodes == nodes && self.callers == callers;
+        let is_whole = is_count(self.nodes, nodes) && is_count(self.callers, callers);
         let mut seats = self.seats;
         seats.look(table);
         if is_whole {
@@ -145,8 +145,8 @@ impl<J: Naming> Gathering<J> {
 impl<J: Naming, S: EntryStore> Ring<J, S> {
     /// Ends the ring. Its nodes are dropped, with their stores and the envelopes under way. One
     /// look at all their seats and at those of these callers proves that they are of one reachable
-    /// world, and the whole of it if the callers are all that the ring admitted, by rising number.
-    pub fn close_with(self, callers: Vec<ReturnedCaller<J>>) -> Closed<J>
+    /// world, and the whole of it if the callers are all that the ring admitted, in any order.
+    pub fn close_with(self, callers: Vec<CallerSeat<J>>) -> Closed<J>
         ensures callers { callers_among result.seats.taken ≡ map (λ (c : CallerSight). c.caller) callers.items }
         ensures shown { AssemblyShown result.seats }
         ensures whole { result.is_whole ≡ true → WholeShown result.seats }
@@ -163,16 +163,5 @@ impl<J: Naming, S: EntryStore> Ring<J, S> {
         all.take_slots(&table, slots);
         all.take_callers(&table, callers);
         all.finish(&table, nodes, places)
-    }
-
-    /// Ends the ring, as `close_with` does, with callers in any order.
-    pub fn close_all(self, callers: Vec<ReturnedCaller<J>>) -> Closed<J>
-        ensures callers { IsPermutation (map (λ (c : CallerSight). c.caller) callers.items) (callers_among result.seats.taken) }
-        ensures shown { AssemblyShown result.seats }
-        ensures whole { result.is_whole ≡ true → WholeShown result.seats }
-    {
-        let mut callers = callers;
-        callers.sort_unstable_by_key(|caller| caller.number);
-        self.close_with(callers)
     }
 }

@@ -219,11 +219,11 @@ impl<J: Naming, S: EntryStore> Ring<J, S> {
         match self.depart_from(rt, numbers, board, departure, at + 1) {
             Ok(()) => {
                 depart_node(departure, &mut seated.node, &mut seated.crashed);
-                seated.seat = Some(numbers.give_node(&self.table, at as u64));
+                seated.seat = Some(numbers.give_node(&self.table, at));
                 Ok(())
             }
             Err(fault) => {
-                seated.seat = Some(numbers.give_node(&self.table, at as u64));
+                seated.seat = Some(numbers.give_node(&self.table, at));
                 Err(fault)
             }
         }

@@ -14,6 +14,7 @@ use chord_map::Request;
 use chord_node::Message;
 use chord_store::EntryStore;
 use chord_table::Naming;
+use std::sync::atomic::Ordering;
 use std::sync::{Mutex, Wait};
 
 /// Whether the message asks for a change of the map.
@@ -57,7 +58,12 @@ impl<J: Naming, S: EntryStore> Ring<J, S> {
         keyed: Keyed<J>,
     ) -> Option<(Target, Keyed<J>)> {
         match self.journal_for(keyed.envelope.message()) {
-            Some(journal) => seated.answer(&self.table, keyed, &mut lock_soon(rt, journal)),
+            Some(journal) => {
+                let mut journal = lock_soon(rt, journal);
+                let sent = seated.answer(&self.table, keyed, &mut journal);
+                self.journal_mark.store(journal.mark(), Ordering::SeqCst);
+                sent
+            }
             None => seated.answer(&self.table, keyed, &mut JournalBuffer::none(self.alloc)),
         }
     }
@@ -74,12 +80,14 @@ impl<J: Naming, S: EntryStore> Ring<J, S> {
         }
     }
 
-    /// How many bytes were added to the journal in all; 0 where none began. It never falls, and the
-    /// command of a change is within it before the change is answered.
-    pub fn journal_mark(&self, rt: &impl Wait) -> u64 {
-        match self.journal.get() {
-            Some(journal) => lock_soon(rt, journal).mark(),
-            None => 0,
-        }
+    /// How many bytes were added to the journal in all; 0 where none began. It never falls, since it
+    /// is stored under the journal's lock. The command of a change is within it before the change
+    /// is answered: who took an answer, of whichever request, and reads it then, finds the commands
+    /// of all changes that the answer may show. For the node that executed such a change raised it
+    /// before its lock was let go, so before another request of that key was executed, and before
+    /// any answer of either was sent; and all these orders are `SeqCst` or those of a lock or a
+    /// channel.
+    pub fn journal_mark(&self) -> u64 {
+        self.journal_mark.load(Ordering::SeqCst)
     }
 }

@@ -30,7 +30,6 @@ mod reader;
 mod register;
 mod rescuing;
 mod resting;
-mod returned_caller;
 mod ring;
 mod ring_parts;
 mod round;
@@ -51,7 +50,6 @@ pub use chord_live_types::{
 pub use closing::Closed;
 pub use fault::{CrashFault, RescueFault, RingRetireFault};
 pub use probe::{NoProbe, Probe};
-pub use returned_caller::ReturnedCaller;
 pub use ring::Ring;
 pub use ring_parts::RingParts;
 pub use round::Round;

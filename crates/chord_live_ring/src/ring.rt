@@ -48,6 +48,8 @@ pub struct Ring<J: Naming, S: EntryStore> {
     pub(crate) stirring: Condvar,
     /// Where there is a journal: what was not taken out of it. Locked behind any other.
     pub(crate) journal: OnceLock<Mutex<JournalBuffer>>,
+    /// How many bytes were added to it in all.
+    pub(crate) journal_mark: AtomicU64,
     ghost sized: { J.name.slots ≡ settings.slots },
     ghost within: { AreWithin settings },
     ghost counted: { vec_len slots ≡ J.name.slots },
@@ -265,12 +267,11 @@ impl<J: Naming, S: EntryStore> Ring<J, S> {
         store: S,
     ) -> Result<SeatedNode<J, S>, (JoinFault, S)>
         requires some { 0 < numbers.old.nodes }
-        requires alone { numbers.old.taken ≡ [] }
         requires slot { numbers.old.nodes < J.name.slots }
         requires next { me.number ≡ numbers.old.nodes }
         requires unused { ¬ Contains numbers.old.ids me.id }
         requires vacant { S.content store ≡ [] }
-        ensures alone { numbers.new.taken ≡ [] }
+        ensures taken { numbers.new.taken ≡ numbers.old.taken }
         ensures back { IfErr result (λ refused. refused.1 ≡ store) }
         ensures same { OnErr result (numbers.new ≡ numbers.old) }
     {

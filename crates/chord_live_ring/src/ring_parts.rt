@@ -83,6 +83,7 @@ impl RingParts {
             stirred: Mutex::new(false),
             stirring: Condvar::new(),
             journal: OnceLock::new(),
+            journal_mark: AtomicU64::new(0),
         })
     }
 }

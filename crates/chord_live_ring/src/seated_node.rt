@@ -102,7 +102,6 @@ impl<J: Naming, S: EntryStore> SeatedNode<J, S> {
         store: S,
     ) -> Result<SeatedNode<J, S>, (JoinFault, S)>
         requires some { 0 < numbers.old.nodes }
-        requires alone { numbers.old.taken ≡ [] }
         requires slot { numbers.old.nodes < J.name.slots }
         requires next { me.number ≡ numbers.old.nodes }
         requires unused { ¬ Contains numbers.old.ids me.id }
@@ -130,7 +129,6 @@ impl<J: Naming, S: EntryStore> SeatedNode<J, S> {
 
     /// The node, crashed by force.
     pub fn crash_by_force(self, numbers: &mut Numbers<J>, table: &Shared<J>) -> SeatedNode<J, S>
-        requires alone { numbers.old.taken ≡ [] }
         requires live { self.crashed ≡ false }
         ensures broken { numbers.new ≡ record numbers.old { premise = false } }
         ensures crashed { result ≡ record self { crashed = true } }

@@ -47,7 +47,6 @@ pub enum LinkStep {
 impl<J: Naming, S: EntryStore> SlotState<J, S> {
     /// The slot after its node, if it has one that did not crash, crashed by force.
     pub fn crashed_by_force(self, numbers: &mut Numbers<J>, table: &Shared<J>) -> SlotState<J, S>
-        requires alone { numbers.old.taken ≡ [] }
         ensures live { (seated : _) → self ≡ Here seated → seated.crashed ≡ false
             → (result ≡ Crashed (record seated { crashed = true })) × (numbers.new ≡ record numbers.old { premise = false }) }
         ensures rescued { (seated : _) → self ≡ Here seated → seated.crashed ≡ true → (result ≡ self) × (numbers.new ≡ numbers.old) }

@@ -19,11 +19,11 @@ use Rattle.chord_model.specs.Node.{Node, founder, newborn}
 use Rattle.chord_ring.specs.Ring.{CanDepart, Members, links_of}
 use Rattle.chord_ring.specs.Steps.{joined_links}
 use Rattle.chord_table.proofs.Rings.{member_within}
-use Rattle.chord_table.proofs.Places.{in_order_all, members_pushed, numbers_pushed}
+use Rattle.chord_table.proofs.Places.{members_pushed, numbers_pushed}
 use Rattle.chord_table.specs.Rings.{AreMembers, place_among}
 use Rattle.chord_table.specs.Scenes.{place_of}
 use Rattle.chord_table.specs.Seen.{OfNode, Sight}
-use Rattle.chord_table.specs.Views.{Assembled, HasAllNodes, MayFound, MayJoin, MayOpen, MayRetire, Register, numbers_among}
+use Rattle.chord_table.specs.Views.{Assembled, HasAllNodes, MayFound, MayJoin, MayOpen, MayRetire, Register, nodes_among, numbers_among}
 
 -- there are no numbers below 0
 pub none_below : [] ≡ numbers_below 0
@@ -143,7 +143,9 @@ join_may register pred node nodes callers ids premise links limit was next low u
 
 -- the seats of all nodes
 pub all_taken : (a : Assembled) (nodes callers : ℕ) (ids : List Id) (premise : Bool) (board : Members) → IsRegister nodes callers ids premise a.register → AreTaken nodes a.taken board → HasAllNodes a
-all_taken a nodes callers ids premise board register taken = in_order_all a (taken.numbered ∙ sym register.nodes_are)
+all_taken a nodes callers ids premise board register taken = record {
+  nodes = sym (length-map (nodes_among a.taken) (λ (n : Node). n.number)) ∙ ap length (taken.numbered ∙ sym register.nodes_are);
+}
 
 -- and the links of all members
 pub all_members : (a : Assembled) (nodes callers : ℕ) (ids : List Id) (premise : Bool) (board : Members) → IsRegister nodes callers ids premise a.register → AreTaken nodes a.taken board → AreMembers a board

@@ -123,7 +123,6 @@ impl<J: Naming> Numbers<J> {
         store: S,
     ) -> Result<(Node<S>, NodeSeat<J>), S>
         requires none { self.old.nodes ≡ 0 }
-        requires alone { self.old.taken ≡ [] }
         requires slot { 0 < J.name.slots }
         requires low { 2 ≤ r }
         requires high { r ≤ 16 }
@@ -156,7 +155,6 @@ impl<J: Naming> Numbers<J> {
         store: S,
     ) -> Result<(Node<S>, NodeSeat<J>), S>
         requires some { 0 < self.old.nodes }
-        requires alone { self.old.taken ≡ [] }
         requires slot { self.old.nodes < J.name.slots }
         requires own { links.me.number ≡ self.old.nodes }
         requires unused { ¬ Contains self.old.ids links.me.id }
@@ -177,7 +175,7 @@ impl<J: Naming> Numbers<J> {
         }
         let me = links.me();
         let node = Node::newborn(alloc, links, store);
-        let seat = self.registrar.join_node(table, me.number, &node, pred);
+        let seat = self.registrar.join_node(table, self.nodes, &node, pred);
         self.ids.push_reserved(me.id);
         self.nodes += 1;
         Ok((node, seat))
@@ -191,7 +189,6 @@ impl<J: Naming> Numbers<J> {
         alloc: Global,
         window: u64,
     ) -> Option<(CallerCore, CallerSeat<J>)>
-        requires alone { self.old.taken ≡ [] }
         requires some { 1 ≤ window }
         requires small { window ≤ 16 }
         ensures number { IfSome result (λ admitted. (admitted.0.number ≡ self.old.callers) × (admitted.0.number < J.name.callers)) }
@@ -217,7 +214,6 @@ impl<J: Naming> Numbers<J> {
         alloc: Global,
         window: u64,
     ) -> Result<(ClientCore, CallerSeat<J>), OpenClientFault>
-        requires alone { self.old.taken ≡ [] }
         requires some { 1 ≤ window }
         requires small { window ≤ 16 }
         ensures number { OnOk result (self.old.callers < J.name.callers) }

@@ -135,15 +135,13 @@ impl<J: Naming, C: AskingCore> SeatedCore<J, C> {
         }
     }
 
-    /// The caller's number and its seat. What the core stores is dropped.
-    pub fn into_seat(self) -> (u64, CallerSeat<J>)
-        ensures number { result.0 ≡ self.caller.number }
-        ensures seat { result.1 ≡ self }
+    /// The caller's seat. What the core stores is dropped.
+    pub fn into_seat(self) -> CallerSeat<J>
+        ensures { result ≡ self }
     {
         let SeatedCore { core, seat } = self;
-        let number = core.number();
         drop(core);
-        (number, seat)
+        seat
     }
 
     /// A witness of the caller as it is now.

@@ -19,16 +19,15 @@ impl<J: Naming> Numbers<J> {
         self.registrar.take_node(table, seat);
     }
 
-    /// Gives back the last seat that was taken in, which is a node's.
-    pub fn give_node(&mut self, table: &Shared<J>, number: u64) -> NodeSeat<J>
+    /// Gives back the last seat that was taken in, which is that of the node in this slot.
+    pub fn give_node(&mut self, table: &Shared<J>, slot: usize) -> NodeSeat<J>
         requires some { self.old.taken ≢ [] }
         requires node { (last_of self.old.taken).actor ≡ OfNode (node_in (last_of self.old.taken).actor) (crashed_in (last_of self.old.taken).actor) }
-        requires own { number ≡ (node_in (last_of self.old.taken).actor).number }
-        requires slot { number < J.name.slots }
+        requires slot { slot < J.name.slots }
         ensures left { self.new ≡ record self.old { taken = all_but_last self.old.taken } }
         ensures seat { result ≡ as_node (last_of self.old.taken) }
     {
-        self.registrar.give_node(table, number)
+        self.registrar.give_node(table, slot)
     }
 
     /// A node departs, if the ring of the others is safe. All nodes' seats were taken in, and the
@@ -57,7 +56,6 @@ impl<J: Naming> Numbers<J> {
 
     /// A node crashes by force: nobody asks the ring, and the premise is gone for good.
     pub fn crash_by_force(&mut self, table: &Shared<J>, seat: NodeSeat<J>) -> NodeSeat<J>
-        requires alone { self.old.taken ≡ [] }
         requires live { seat.crashed ≡ false }
         ensures broken { self.new ≡ record self.old { premise = false } }
         ensures seat { result ≡ record seat { crashed = true } }

@@ -13,7 +13,7 @@ use Rattle.chord_resp.specs.declared.table.command.Command.TheVariants as comman
 use Rattle.chord_resp.specs.declared.table.denied.Denied.{Denied}
 use Rattle.chord_resp.specs.declared.table.denied.Denied.TheVariants as denied
 use Rattle.chord_resp.specs.declared.table.refusal.Refusal.{Refusal}
-use Rattle.chord_resp.specs.declared.table.refusal.Refusal.TheVariants.{UnknownCommand, UnknownSubcommand, WrongNumber, KeyLength, MemberLength, WordLength, NoDatabase, NoProtocol, NoTransactions}
+use Rattle.chord_resp.specs.declared.table.refusal.Refusal.TheVariants.{UnknownCommand, UnknownSubcommand, WrongNumber, KeyLength, MemberLength, WordLength, NoDatabase, NoProtocol, NoTransactions, NothingToAbort, Syntax}
 
 infixl 10 ◌>>=◌
 abbrev pub ◌>>=◌ : {A B : Type 0} → Result A Refusal → (A → Result B Refusal) → Result B Refusal
@@ -53,12 +53,13 @@ verb_text verb.Exec = codes "exec"
 verb_text verb.Discard = codes "discard"
 verb_text verb.Watch = codes "watch"
 verb_text verb.Unwatch = codes "unwatch"
+verb_text verb.Shutdown = codes "shutdown"
 
 -- all of them
 abbrev pub all_verbs : List Verb
 all_verbs = verb.Sadd ∷ verb.Srem ∷ verb.Smembers ∷ verb.Scard ∷ verb.Sismember ∷ verb.Smismember ∷ verb.Exists ∷ verb.Type ∷ verb.Ping ∷ verb.Echo
     ∷ verb.Select ∷ verb.Client ∷ verb.Hello ∷ verb.Command ∷ verb.Config ∷ verb.Info ∷ verb.Quit ∷ verb.Reset
-    ∷ verb.Multi ∷ verb.Exec ∷ verb.Discard ∷ verb.Watch ∷ verb.Unwatch ∷ []
+    ∷ verb.Multi ∷ verb.Exec ∷ verb.Discard ∷ verb.Watch ∷ verb.Unwatch ∷ verb.Shutdown ∷ []
 
 -- the word is this text, in upper or lower case
 unfoldable pub is_text : Word → List ℕ → Bool
@@ -104,6 +105,7 @@ takes verb.Exec words = words == 0
 takes verb.Discard words = words == 0
 takes verb.Watch words = nat_le 1 words
 takes verb.Unwatch words = words == 0
+takes verb.Shutdown words = true
 
 -- commands on sets
 abbrev pub is_of_sets : Verb → Bool
@@ -223,6 +225,16 @@ config_of (word ∷ words) =
     if is_text word (codes "get") then counted (length words == 1) verb.Config command.Nothing
     else Err (UnknownSubcommand verb.Config word)
 
+-- a way to shut down: each is the same, since nothing is written anywhere
+abbrev pub is_way : Word → Bool
+is_way word = is_text word (codes "nosave") || is_text word (codes "save") || is_text word (codes "now") || is_text word (codes "force")
+
+-- SHUTDOWN and the ways behind it
+unfoldable pub shutdown_of : List Word → Result Command Refusal
+shutdown_of [] = Ok command.Shutdown
+shutdown_of (word ∷ words) = if is_text word (codes "abort") then Err NothingToAbort
+    else (if is_way word then shutdown_of words else Err Syntax)
+
 abbrev pub connection_command : Verb → List Word → Result Command Refusal
 connection_command verb.Ping words = ping_of words
 connection_command verb.Echo words = ping_of words
@@ -238,6 +250,7 @@ connection_command verb.Exec words = Ok command.Exec
 connection_command verb.Discard words = Ok command.Discard
 connection_command verb.Watch words = Err NoTransactions
 connection_command verb.Unwatch words = Ok command.Accept
+connection_command verb.Shutdown words = shutdown_of words
 connection_command _ words = Ok command.Quit
 
 -- ---- any command

@@ -55,6 +55,7 @@ asking_goes_on command.Multi asks = refl
 asking_goes_on command.Exec asks = refl
 asking_goes_on command.Discard asks = refl
 asking_goes_on command.Quit asks = absurd (asks refl)
+asking_goes_on command.Shutdown asks = absurd (asks refl)
 
 -- what was answered at an end was answered where only a part of it was written
 answered_part : {A : Type 0} (answers : A → Question → Asked → A → Type 0) (tells : List ℕ → Type 0) (number : ℕ) (from : State) (end : Served) (n : Standing) (a a' : A) (i sent due : List ℕ)

@@ -23,7 +23,7 @@ use Rattle.chord_resp_serve.specs.Words.{AnswersWords}
 
 -- a connection before its first request
 abbrev pub first_standing : Standing
-first_standing = record { asked = 0; is_in_transaction = false }
+first_standing = record { asked = 0; is_in_transaction = false; shuts_down = false }
 
 -- whether the words are those of INFO
 abbrev pub asks_info : List Word → Bool

@@ -1,6 +1,6 @@
 -- MULTI, EXEC and DISCARD. Transactions are not served: nothing of one is done, and each of its
 -- commands gets one answer. Source: the published pages of the commands; the texts are our own.
-use Rattle.std.specs.Prelude.{◌≡◌, Bool, true, false, Result, Ok, Err}
+use Rattle.std.specs.Prelude.{◌≡◌, Bool, true, false, not, Result, Ok, Err}
 use Rattle.chord_resp.specs.declared.table.command.Command.{Command}
 use Rattle.chord_resp.specs.declared.table.command.Command.TheVariants as command
 use Rattle.chord_resp.specs.declared.table.denied.Denied.{Denied}
@@ -21,10 +21,16 @@ abbrev pub is_open_after : Bool → Result Command Refusal → Bool
 is_open_after before (Ok c) = is_open_behind before c
 is_open_after before (Err r) = before
 
+-- whether the server is to stop: SHUTDOWN came, outside of a transaction
+abbrev pub shuts_down_after : Bool → Result Command Refusal → Bool
+shuts_down_after is_open (Ok command.Shutdown) = not is_open
+shuts_down_after is_open _ = false
+
 -- the standing behind what the words of a client call for
 abbrev pub standing_behind : Standing → Result Command Refusal → Standing
 standing_behind n called = record n {
   is_in_transaction = is_open_after n.is_in_transaction called;
+  shuts_down = shuts_down_after n.is_in_transaction called;
 }
 
 -- the connection has gone on to this standing, unless memory ran out

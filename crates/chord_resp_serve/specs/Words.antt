@@ -17,9 +17,10 @@ use Rattle.chord_resp_serve.specs.declared.standing.Standing.{Standing}
 use Rattle.chord_resp_serve.specs.Answering.{AnswersCommand}
 use Rattle.chord_resp_serve.specs.Transactions.{allowed, standing_behind}
 
--- QUIT ends the connection
+-- QUIT and SHUTDOWN end the connection
 abbrev pub flow_of : Command → Flow
 flow_of command.Quit = flow.Quits
+flow_of command.Shutdown = flow.Quits
 flow_of _ = flow.GoesOn
 
 -- the flow, if there was memory to tell the answer

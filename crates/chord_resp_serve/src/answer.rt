@@ -14,7 +14,7 @@ use chord_resp::{
 use std::alloc::{AllocError, Global};
 
 /// How many commands COMMAND COUNT tells of.
-const COMMANDS: u64 = 23;
+const COMMANDS: u64 = 24;
 
 impl Tally {
     // The values of the last reply.
@@ -104,6 +104,7 @@ pub fn put_answer(
         Command::Accept | Command::Quit | Command::Multi | Command::Discard => {
             put_simple(out, b"OK")
         }
+        Command::Shutdown => Ok(()),
         Command::Reset => put_simple(out, b"RESET"),
         Command::Name => put_null(out),
         Command::Number => put_integer(out, about.number),

@@ -85,11 +85,19 @@ impl<'i, A, I> CommandProtocol<'i, A, I> {
             standing: Standing {
                 asked: 0,
                 is_in_transaction: false,
+                shuts_down: false,
             },
             server,
             asker,
             waiting: None,
         }
+    }
+
+    /// Whether its client sent SHUTDOWN: the server is to stop.
+    pub fn shuts_down(&self) -> bool
+        ensures { result ≡ self.now.standing.shuts_down }
+    {
+        self.standing.shuts_down
     }
 
     pub fn into_asker(self) -> A

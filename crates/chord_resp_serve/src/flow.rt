@@ -17,7 +17,7 @@ pub(crate) fn flow_of(command: &Command) -> Flow
     ensures { result ≡ flow_of command.now }
 {
     match command {
-        Command::Quit => Flow::Quits,
+        Command::Quit | Command::Shutdown => Flow::Quits,
         _ => Flow::GoesOn,
     }
 }

@@ -1,7 +1,7 @@
 //! What a connection keeps from one command to the next.
 ghost use Rattle.std.specs.Prelude.{◌≡◌, ◌≢◌, Err};
 ghost use Rattle.chord_resp.specs.Table.{Gives};
-ghost use Rattle.chord_resp_serve.specs.Transactions.{allowed, inside, is_open_after, outside, standing_behind};
+ghost use Rattle.chord_resp_serve.specs.Transactions.{allowed, inside, is_open_after, outside, shuts_down_after, standing_behind};
 
 use chord_resp::{Command, Denied, Refusal};
 
@@ -12,6 +12,8 @@ pub struct Standing {
     pub asked: u64,
     /// Whether MULTI came, and not EXEC or DISCARD.
     pub is_in_transaction: bool,
+    /// Whether SHUTDOWN came: the server is to stop.
+    pub shuts_down: bool,
 }
 
 /// Whether a transaction is under way behind what a client called for.
@@ -23,6 +25,13 @@ fn is_open_after(before: bool, called: &Result<Command, Refusal>) -> bool
         Ok(Command::Exec | Command::Discard | Command::Reset) => false,
         _ => before,
     }
+}
+
+/// Whether the server is to stop behind what a client called for.
+fn shuts_down_after(is_open: bool, called: &Result<Command, Refusal>) -> bool
+    ensures { result ≡ shuts_down_after is_open called.now }
+{
+    !is_open && matches!(called, Ok(Command::Shutdown))
 }
 
 /// What is done in a transaction: nothing that asks.
@@ -71,6 +80,7 @@ impl Standing {
         ensures memory { result ≢ Err Denied.Memory }
     {
         let is_open = self.is_in_transaction;
+        self.shuts_down = shuts_down_after(is_open, &called);
         self.is_in_transaction = is_open_after(is_open, &called);
         match allowed(is_open, called) {
             Ok(command) => Ok(command),

@@ -46,6 +46,7 @@ pub use frame_protocol::FrameProtocol;
 pub use greeting::first_opening;
 pub use kept_sessions::{KeptSession, KeptSessions};
 pub use link::connection::Link;
+pub use link::marks::{Marks, NoMarks};
 pub use link::protocol::Protocol;
 pub use link::stage::{Stage, Step};
 pub use link::stream::{Pair, Stream};

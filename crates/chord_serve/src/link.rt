@@ -2,6 +2,7 @@
 
 pub(crate) mod connection;
 mod machine;
+pub(crate) mod marks;
 pub(crate) mod outbox;
 pub(crate) mod protocol;
 pub(crate) mod stage;

@@ -5,7 +5,7 @@ ghost use Rattle.chord_serve.specs.Question.{IsAnswer, IsHeard, IsReplyTo};
 use chord_map::{PlainMap, Reply, Request};
 use chord_serve::{Asked, Asker};
 use chord_wire::is_writable;
-use std::alloc::{AllocError, Global};
+use std::alloc::Global;
 
 /// Lists one more request, if there is memory.
 pub fn note(requests: &mut Vec<Request>, request: &Request) -> bool
@@ -75,28 +75,6 @@ impl MapAsker {
             map: PlainMap::new(alloc),
             requests: Vec::new(alloc),
         }
-    }
-
-    /// Whether the request is executed.
-    fn does(&mut self, request: &Request) -> bool {
-        if request.check().is_err() {
-            return false;
-        }
-        let applied = self.map.apply(request);
-        let is_done = applied.is_ok();
-        drop(applied);
-        is_done
-    }
-
-    /// The asker after it executed this request.
-    pub fn having(mut self, request: Result<Request, AllocError>) -> Option<MapAsker> {
-        let is_done = request.as_ref().is_ok_and(|request| self.does(request));
-        drop(request);
-        if is_done {
-            return Some(self);
-        }
-        drop(self);
-        None
     }
 }
 

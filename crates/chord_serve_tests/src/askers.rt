@@ -5,7 +5,7 @@ ghost use Rattle.chord_serve.specs.declared.asker.Asked.TheVariants.{Memory};
 
 use chord_map::{PlainMap, Request};
 use chord_resp_serve::{Informs, ServerInfo};
-use chord_serve::{Asked, Asker, Link, Protocol, Stream};
+use chord_serve::{Asked, Asker, Link, NoMarks, Protocol, Stream};
 use chord_serve_testkit::{asked_of, note};
 use std::alloc::{AllocError, Global};
 
@@ -188,15 +188,15 @@ pub fn drive<P: Protocol, S: Stream>(link: &mut Link<P, S>, buffer: &mut [u8], p
         if link.is_done() {
             return;
         }
-        link.advance();
+        link.advance(&NoMarks);
         if link.waits() {
             if link.tries() < patience {
-                link.try_again();
+                link.try_again(&NoMarks);
             } else {
-                link.stop_waiting();
+                link.stop_waiting(&NoMarks);
             }
         }
-        let _ = link.write_to().is_ok();
+        let _ = link.write_to(0).is_ok();
         let _ = link.read_from(buffer).is_ok();
     }
 }

@@ -5,6 +5,7 @@ mod echoes;
 pub mod flying;
 mod going_on;
 pub mod in_flight;
+mod marks;
 mod resumed;
 pub mod serving;
 pub mod sessions;

@@ -1,6 +1,5 @@
 -- The only node of a ring is a principal.
-use Rattle.std.proofs.Common.{◌≡◌, ◌≢◌, ℕ, zero, suc, false, List, [], ◌∷◌, All, Contains, length, refl, sym, ap, ◌∙◌, subst, inl, inr}
-use Rattle.std.proofs.lemmas.List.Elements.{All-nil, All-cons, Contains-push}
+use Rattle.std.proofs.Common.{◌≡◌, ◌≢◌, ℕ, zero, suc, false, List, [], ◌∷◌, length, refl, sym, ap, ◌∙◌, subst, inl, inr}
 use Rattle.chord_links.specs.NodeLinks.{NodeLinks}
 use Rattle.chord_links.specs.Successors.{Skips}
 use Rattle.chord_map.proofs.Equal.{eqb_other}
@@ -10,7 +9,7 @@ use Rattle.chord_ring.specs.Ring.{Members, links_of, IsPrincipal}
 use Rattle.chord_ring.specs.Steps.{founded_ring}
 use Rattle.chord_table.specs.Rings.{AreMembers, place_among}
 use Rattle.chord_table.specs.Seen.{Sight}
-use Rattle.chord_table.specs.Views.{Assembled, HasAllNodes, NodeSight, as_actor, nodes_among, numbers_among}
+use Rattle.chord_table.specs.Views.{Assembled, HasAllNodes, NodeSight, as_actor, nodes_among}
 
 -- what the seat of the only node shows
 abbrev pub only_seat : ℕ → NodeSight
@@ -22,9 +21,7 @@ module _ (a : Assembled) (seat : NodeSight) (limit : ℕ) (taken : a.taken ≡ a
 
   pub all_nodes : a.register.nodes ≡ 0 ∷ [] → HasAllNodes a
   all_nodes nodes = record {
-    nodes = subst (λ (n : List ℕ). All (Contains (numbers_among a.taken)) n) (sym nodes)
-        (subst (λ (t : List Sight). All (Contains (numbers_among t)) (0 ∷ [])) (sym shows)
-        (All-cons (Contains (0 ∷ [])) 0 [] (Contains-push [] 0) (All-nil (Contains (0 ∷ [])))));
+    nodes = ap (λ (t : List Sight). length (nodes_among t)) shows ∙ sym (ap length nodes);
   }
 
   pub some_node : nodes_among a.taken ≢ []

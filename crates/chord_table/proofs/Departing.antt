@@ -1,8 +1,8 @@
 -- A node crashes, while the registrar's seat has those of all nodes.
-use Rattle.std.proofs.Common.{◌≡◌, ◌≢◌, ℕ, ◌||◌, eqb, true, false, List, [], ◌∷◌, map, set, Option, Some, None, refl, sym, ap, ◌∙◌, subst, inl, inr, ⊎_elim, All}
+use Rattle.std.proofs.Common.{◌≡◌, ◌≢◌, ℕ, ◌||◌, eqb, true, false, List, [], ◌∷◌, ◌++◌, map, set, Option, Some, None, refl, sym, ap, ◌∙◌, subst, inl, inr, ⊎_elim, All}
 use Rattle.std.specs.Prelude.{is_some, IsTrue}
 use Rattle.std.proofs.lemmas.List.{get_or-set_other, length-set}
-use Rattle.std.proofs.lemmas.List.Elements.{All-nil, All-cons, All-head, All-tail}
+use Rattle.std.proofs.lemmas.List.Elements.{All-nil, All-cons, All-head, All-push, All-tail}
 use Rattle.std.proofs.lemmas.Option.{none-some}
 use Rattle.atomic_table.specs.Table.{Me, Allows}
 use Rattle.atomic_table.specs.Table.{keeps as keeps_slots}
@@ -12,17 +12,19 @@ use Rattle.chord_model.specs.Node.{Node}
 use Rattle.chord_model.specs.declared.message.Message.{Message}
 use Rattle.chord_model.specs.World.{node_at}
 use Rattle.chord_ring.specs.Ring.{Members, links_of, CanDepart}
+use Rattle.chord_table.proofs.Giving.{all_before, all_but_push, differ_before, last_of_push, one_last}
 use Rattle.chord_table.proofs.Owning.{AreOf, are_changed, differ_changed, registrar_heir, seat_heir}
 use Rattle.chord_table.proofs.Places.{placed_one}
 use Rattle.chord_table.proofs.Rings.{member_node, none_set}
 use Rattle.chord_table.proofs.Stays.{gone_stays, broken_stays, knows_on, knows_broken}
 use Rattle.chord_table.proofs.Showing.{IsHeir, shows_changed}
+use Rattle.chord_table.proofs.Taking.{differ_push}
 use Rattle.chord_table.proofs.WholeRing.{members_same}
 use Rattle.chord_table.specs.Actors.{AreOne}
 use Rattle.chord_table.specs.Rings.{AreMembers, place_among}
 use Rattle.chord_table.specs.Scenes.{Scene, Lived, Agrees, place_of, place_in, is_among, with_crash, with_break}
 use Rattle.chord_table.specs.Seen.{Actor, OfNode, OfCaller, Sight, View, Admitted, Shown, Together, Witnessed, Sent, Standing, Spent}
-use Rattle.chord_table.specs.Views.{OneIs, IsSeenIn, IsTrueOf, HaveOneOwner, IsKept, Assembled, Register, known_in, view_of_assembled, HasAllNodes, crash_actor, crash_sight, with_crashed_node, with_broken_node, broken_actor, node_in}
+use Rattle.chord_table.specs.Views.{OneIs, IsSeenIn, IsTrueOf, HaveOneOwner, IsKept, Assembled, Register, known_in, view_of_assembled, HasAllNodes, crash_actor, crash_sight, with_crashed_node, with_broken_node, broken_actor, node_in, last_of}
 
 -- ---- the ring
 
@@ -164,7 +166,7 @@ crash_as slots id word me a number f is whole (members, are, can) =
     allowed t (scene, lived, agrees, shows) len at fits =
         let (nodes, callers, named, differ, all) = shows.agrees id old at in
         let may : CanDepart scene.ring.members number =
-        subst (λ (ms : Members). CanDepart ms number) (members_same scene a agrees nodes named all whole members are) can in
+        subst (λ (ms : Members). CanDepart ms number) (members_same scene a agrees nodes named differ all whole members are) can in
         let (node, here) = member_node scene agrees number may.0 in
         let same : number ≡ node.number = sym (nodes_by.number number scene.world.nodes node here) in
         let own : OneIs a.taken (OfNode node false) =
@@ -201,15 +203,39 @@ agrees_broken scene node agrees here =
     let after = agrees_crashed scene node.number node agrees here in
     record { members = after.members; counted = after.counted; named = after.named; known = after.known }
 
-broken_left : (node : Node) (actor : Actor) → AreOne (OfNode node true) actor → AreOne (OfNode node false) actor
-broken_left node (OfNode other out) one = one
-broken_left node (OfCaller caller) one = one
+-- the registrar's view once the last node crashed by force
+broken_view : (register : Register) (others : List Sight) (s : Sight)
+    → ◌≡◌ {A = Me ℕ View} (with_broken_node (view_of_assembled (record { register = register; taken = others ++ s ∷ [] })), [])
+    (view_of_assembled (record { register = record register { premise = false }; taken = others ++ record { actor = broken_actor s.actor; messages = s.messages } ∷ [] }), [])
+broken_view register others s =
+    ap (λ (l : List Sight). (view_of_assembled (record { register = record register { premise = false }; taken = l ++ record { actor = broken_actor (last_of (others ++ s ∷ [])).actor; messages = (last_of (others ++ s ∷ [])).messages } ∷ [] }), [])) (all_but_push others s)
+    ∙ ap (λ (last : Sight). (view_of_assembled (record { register = record register { premise = false }; taken = others ++ record { actor = broken_actor last.actor; messages = last.messages } ∷ [] }), [])) (last_of_push others s)
 
--- while the registrar's seat has that of the node alone
-pub break_as : (slots id word : ℕ) (me : Me ℕ View) (register : Register) (node : Node) (messages : List Message) (f : ℕ → ℕ)
-    → me ≡ (view_of_assembled (record { register = register; taken = record { actor = OfNode node false; messages = messages } ∷ [] }), [])
+-- the sights are of the same actors
+broken_one : (node : Node) (actor : Actor) → AreOne (OfNode node true) actor → AreOne (OfNode node false) actor
+broken_one node (OfNode other out) one = one
+broken_one node (OfCaller caller) one = one
+
+are_broken : (others : List Sight) (node : Node) (messages : List Message) → AreOf (others ++ record { actor = OfNode node true; messages = messages } ∷ []) (others ++ record { actor = OfNode node false; messages = messages } ∷ [])
+are_broken [] node messages actor (inl one) = inl (broken_one node actor one)
+are_broken [] node messages actor (inr none) = absurd none
+are_broken (first ∷ rest) node messages actor (inl one) = inl one
+are_broken (first ∷ rest) node messages actor (inr one) = inr (are_broken rest node messages actor one)
+
+still_away : (others : List Sight) (node : Node) → (OneIs others (OfNode node false) → ⊥) → OneIs others (OfNode node true) → ⊥
+still_away [] node apart h = h
+still_away (first ∷ rest) node apart (inl one) = apart (inl (by_kind first.actor one))
+  where
+    by_kind : (actor : Actor) → AreOne actor (OfNode node true) → AreOne actor (OfNode node false)
+    by_kind (OfNode other out) one = one
+    by_kind (OfCaller caller) one = one
+still_away (first ∷ rest) node apart (inr h) = still_away rest node (λ one. apart (inr one)) h
+
+-- while the registrar's seat has that of the node as the last one
+pub break_as : (slots id word : ℕ) (me : Me ℕ View) (register : Register) (others : List Sight) (node : Node) (messages : List Message) (f : ℕ → ℕ)
+    → me ≡ (view_of_assembled (record { register = register; taken = others ++ record { actor = OfNode node false; messages = messages } ∷ [] }), [])
     → Allows IsKept slots id me word f (λ found m. m ≡ (with_broken_node me.0, me.1))
-break_as slots id word me register node messages f is =
+break_as slots id word me register others node messages f is =
     subst (λ (m : Me ℕ View). Allows IsKept slots id m word f (λ found w. w ≡ (with_broken_node m.0, m.1))) (sym is) allowed
   where
     sight : Sight
@@ -219,28 +245,29 @@ break_as slots id word me register node messages f is =
     broken = record { actor = OfNode node true; messages = messages }
 
     a : Assembled
-    a = record { register = register; taken = sight ∷ [] }
+    a = record { register = register; taken = others ++ sight ∷ [] }
 
     old : View
     old = view_of_assembled a
 
     new : View
-    new = view_of_assembled (record { register = record register { premise = false }; taken = broken ∷ [] })
+    new = view_of_assembled (record { register = record register { premise = false }; taken = others ++ broken ∷ [] })
 
-    are_broken : AreOf (broken ∷ []) (sight ∷ [])
-    are_broken actor (inl one) = inl (broken_left node actor one)
-    are_broken actor (inr none) = absurd none
+    becomes : ◌≡◌ {A = Me ℕ View} (new, []) (with_broken_node old, [])
+    becomes = sym (broken_view register others sight)
 
     heir : IsHeir old new
-    heir = registrar_heir register.nodes register.callers (known_in register) (sight ∷ [])
-        register.nodes register.callers (known_in (record register { premise = false })) (broken ∷ []) are_broken
+    heir = registrar_heir register.nodes register.callers (known_in register) (others ++ sight ∷ [])
+        register.nodes register.callers (known_in (record register { premise = false })) (others ++ broken ∷ []) (are_broken others node messages)
 
-    allowed : Allows IsKept slots id (old, []) word f (λ found m. m ≡ (new, []))
+    allowed : Allows IsKept slots id (old, []) word f (λ found m. m ≡ (with_broken_node old, []))
     allowed t (scene, lived, agrees, shows) len at fits =
         let (nodes, callers, known, differ, all) = shows.agrees id old at in
-        let ((there, sent), standing) = All-head (IsSeenIn scene) sight [] all in
+        let (others_differ, apart_last) = differ_before sight others differ in
+        let (before, ((there, sent), standing)) = all_before sight (IsSeenIn scene) others all in
         let after = agrees_broken scene node agrees there in
-        let out : is_among node.number (node.number ∷ scene.crashed) ≡ true = ap (λ b. b || is_among node.number scene.crashed) (eqb_same node.number node.number refl) in (
+        let out : is_among node.number (node.number ∷ scene.crashed) ≡ true = ap (λ b. b || is_among node.number scene.crashed) (eqb_same node.number node.number refl) in
+        let last : IsSeenIn (with_break node.number scene) broken = ((there, sent), out) in (
           new,
           keeps_slots,
           tt,
@@ -252,25 +279,25 @@ break_as slots id word me register node messages f is =
               nodes,
               callers,
               knows_broken scene node.number (known_in register) known,
-              ((λ (h : ⊥). h), tt),
-              All-cons (IsSeenIn (with_break node.number scene)) broken [] ((there, sent), out) (All-nil (IsSeenIn (with_break node.number scene))),
+              differ_push others broken others_differ (still_away others node apart_last),
+              All-push (IsSeenIn (with_break node.number scene)) others broken (all_still scene node others apart_last before) last,
             )
-                (λ seat u apart e. still_broken scene node a (inl refl) u (λ one. apart (shows.apart seat id u old e at one)) (shows.agrees seat u e)),
+                (λ seat u apart e. still_broken scene node a (one_last sight others (OfNode node false) refl) u (λ one. apart (shows.apart seat id u old e at one)) (shows.agrees seat u e)),
           ),
-          refl,
+          becomes,
         )
 
 -- the same, where a seat shows that the actor is a node
-pub break_of : (slots id word : ℕ) (me : Me ℕ View) (register : Register) (s : Sight) (f : ℕ → ℕ) → me ≡ (view_of_assembled (record { register = register; taken = s ∷ [] }), [])
+pub break_of : (slots id word : ℕ) (me : Me ℕ View) (register : Register) (others : List Sight) (s : Sight) (f : ℕ → ℕ) → me ≡ (view_of_assembled (record { register = register; taken = others ++ s ∷ [] }), [])
     → s.actor ≡ OfNode (node_in s.actor) false → Allows IsKept slots id me word f (λ found m. m ≡ (with_broken_node me.0, me.1))
-break_of slots id word me register s f is node =
-    break_as slots id word me register (node_in s.actor) s.messages f
-    (is ∙ ap (λ (actor : Actor). (view_of_assembled (record { register = register; taken = record { actor = actor; messages = s.messages } ∷ [] }), [])) node)
+break_of slots id word me register others s f is node =
+    break_as slots id word me register others (node_in s.actor) s.messages f
+    (is ∙ ap (λ (actor : Actor). (view_of_assembled (record { register = register; taken = others ++ record { actor = actor; messages = s.messages } ∷ [] }), [])) node)
 
 -- what the registrar's seat is then
-pub broken_seats : (first second : Me ℕ View) (register : Register) (s : Sight) → first ≡ (view_of_assembled (record { register = register; taken = s ∷ [] }), [])
+pub broken_seats : (first second : Me ℕ View) (register : Register) (others : List Sight) (s : Sight) → first ≡ (view_of_assembled (record { register = register; taken = others ++ s ∷ [] }), [])
     → s.actor ≡ OfNode (node_in s.actor) false → second ≡ (with_broken_node first.0, first.1)
-    → second ≡ (view_of_assembled (record { register = record register { premise = false }; taken = record s { actor = OfNode (node_in s.actor) true } ∷ [] }), [])
-broken_seats first second register s is node becomes =
-    becomes ∙ ap (λ (m : Me ℕ View). (with_broken_node m.0, m.1)) is
-    ∙ ap (λ (actor : Actor). (view_of_assembled (record { register = record register { premise = false }; taken = record { actor = broken_actor actor; messages = s.messages } ∷ [] }), [])) node
+    → second ≡ (view_of_assembled (record { register = record register { premise = false }; taken = others ++ record s { actor = OfNode (node_in s.actor) true } ∷ [] }), [])
+broken_seats first second register others s is node becomes =
+    becomes ∙ ap (λ (m : Me ℕ View). (with_broken_node m.0, m.1)) is ∙ broken_view register others s
+    ∙ ap (λ (actor : Actor). (view_of_assembled (record { register = record register { premise = false }; taken = others ++ record { actor = broken_actor actor; messages = s.messages } ∷ [] }), [])) node

@@ -2,11 +2,12 @@
 use Rattle.std.proofs.Common.{◌≡◌, ◌≢◌, ℕ, List, [], ◌∷◌, ◌++◌, refl, sym, ap, ◌∙◌, subst, inl, inr, All}
 use Rattle.std.proofs.lemmas.List.Elements.{All-nil, All-cons, All-head, All-tail}
 use Rattle.atomic_table.specs.Table.{Me, Splits}
+use Rattle.chord_table.proofs.Keeping.{seated_as}
 use Rattle.chord_table.proofs.Owning.{itself, turned, registrar_heir, seat_heir}
 use Rattle.chord_table.proofs.Showing.{IsHeir, shows_parted}
 use Rattle.chord_table.specs.Actors.{AreOne}
 use Rattle.chord_table.specs.Seen.{Actor, Sight, View}
-use Rattle.chord_table.specs.Views.{Name, known_in, OneIs, AllDiffer, IsSeenIn, IsKept, Assembled, Register, view_of, view_of_assembled, sight_of, word_of, last_of, all_but_last, without_last, last_seat}
+use Rattle.chord_table.specs.Views.{known_in, OneIs, AllDiffer, IsSeenIn, IsKept, Assembled, Register, view_of, view_of_assembled, sight_of, last_of, all_but_last, without_last, last_seat}
 
 -- ---- the last of a list
 
@@ -26,6 +27,11 @@ all_but_push [] sight = refl
 all_but_push (first ∷ []) sight = refl
 all_but_push (first ∷ second ∷ rest) sight = ap (λ l. first ∷ l) (all_but_push (second ∷ rest) sight)
 
+-- there is one
+pub some_behind : (taken : List Sight) (sight : Sight) → taken ++ sight ∷ [] ≢ []
+some_behind [] sight = λ e. cc
+some_behind (first ∷ rest) sight = λ e. cc
+
 -- ---- no actor twice
 
 module _ (s : Sight) where
@@ -34,11 +40,11 @@ module _ (s : Sight) where
   one_before (first ∷ rest) actor (inl one) = inl one
   one_before (first ∷ rest) actor (inr h) = inr (one_before rest actor h)
 
-  one_last : (rest : List Sight) (actor : Actor) → AreOne s.actor actor → OneIs (rest ++ s ∷ []) actor
+  pub one_last : (rest : List Sight) (actor : Actor) → AreOne s.actor actor → OneIs (rest ++ s ∷ []) actor
   one_last [] actor one = inl one
   one_last (first ∷ rest) actor one = inr (one_last rest actor one)
 
-  differ_before : (rest : List Sight) → AllDiffer (rest ++ s ∷ []) → AllDiffer rest × (OneIs rest s.actor → ⊥)
+  pub differ_before : (rest : List Sight) → AllDiffer (rest ++ s ∷ []) → AllDiffer rest × (OneIs rest s.actor → ⊥)
   differ_before [] differ = (tt, (λ h. h))
   differ_before (first ∷ rest) (none, differ) =
       let (before, apart) = differ_before rest differ in (
@@ -50,7 +56,7 @@ module _ (s : Sight) where
       by_place (inl one) apart = none (one_last rest first.actor (turned first.actor s.actor one))
       by_place (inr h) apart = apart h
 
-  all_before : (P : Sight → Type 0) (rest : List Sight) → All P (rest ++ s ∷ []) → All P rest × P s
+  pub all_before : (P : Sight → Type 0) (rest : List Sight) → All P (rest ++ s ∷ []) → All P rest × P s
   all_before P [] all = (All-nil P, All-head P s [] all)
   all_before P (first ∷ rest) all =
       let (before, last) = all_before P rest (All-tail P first (rest ++ s ∷ []) all) in
@@ -100,8 +106,7 @@ pub left_assembled : (old new : Me ℕ View) (a : Assembled) → old ≡ (view_o
     → new ≡ (view_of_assembled (record a { taken = all_but_last a.taken }), [])
 left_assembled old new a is becomes = becomes ∙ ap (λ (m : Me ℕ View). (without_last m.0, m.1)) is
 
-pub given_seat : (name : Name) (word : ℕ) (old back : Me ℕ View) (a : Assembled) → old ≡ (view_of_assembled a, []) → back ≡ (last_seat old.0, []) → word ≡ word_of name (last_of a.taken).actor
-    → (back ≡ (view_of (sight_of back.0), [])) × (word ≡ word_of name (sight_of back.0).actor)
-given_seat name word old back a is gives at =
-    let given : back ≡ (view_of (last_of a.taken), []) = gives ∙ ap (λ (m : Me ℕ View). (last_seat m.0, [])) is in
-    subst (λ (m : Me ℕ View). (m ≡ (view_of (sight_of m.0), [])) × (word ≡ word_of name (sight_of m.0).actor)) (sym given) (refl, at)
+pub given_seat : (old back : Me ℕ View) (a : Assembled) → old ≡ (view_of_assembled a, [])
+    → back ≡ (last_seat old.0, []) → back ≡ (view_of (sight_of back.0), [])
+given_seat old back a is gives =
+    seated_as back (last_of a.taken) (gives ∙ ap (λ (m : Me ℕ View). (last_seat m.0, [])) is)

@@ -1,6 +1,6 @@
 -- Each step of the table keeps its rule.
 use Rattle.std.proofs.Common.{◌≡◌, ◌≢◌, ℕ, true, false, ◌<◌, arith, List, [], ◌∷◌, ◌++◌, set, zero, suc, Option, None, Some, refl, sym, ap, ◌∙◌, subst, inl, inr, ⊎_elim, Contains, All}
-use Rattle.std.proofs.lemmas.List.Elements.{All-append, All-weaker, All-cons, All-push, All-nil, All-head, All-tail, Contains-push}
+use Rattle.std.proofs.lemmas.List.Elements.{All-append, All-contains, All-weaker, All-cons, All-push, All-nil, All-head, All-tail, Contains-push}
 use Rattle.std.proofs.lemmas.List.{get_or_past}
 use mathlib.Core.Option.{some, some-ne-none, some-injective}
 use lib.ListN.{get_elem?}
@@ -13,7 +13,6 @@ use Rattle.chord_model.specs.World.{World, node_at}
 use Rattle.chord_ring.specs.Steps.{Ring}
 use Rattle.chord_table.proofs.Events.{scene_after, scene_with, event_shown, true_entered, all_seen_entered, register_entered, callers_entered}
 use Rattle.chord_table.proofs.Later.{later_itself}
-use Rattle.chord_table.proofs.Numbers.{same_word}
 use Rattle.chord_table.proofs.Owning.{itself, turned, shown_heir, registrar_heir}
 use Rattle.chord_table.proofs.Stays.{Stays, effect_stays, knows_on}
 use Rattle.chord_table.proofs.Showing.{IsHeir, shows_changed, shows_added}
@@ -22,7 +21,7 @@ use Rattle.chord_table.specs.Actors.{world_after}
 use Rattle.chord_table.specs.Later.{WasThere}
 use Rattle.chord_table.specs.Scenes.{Scene, Lived, Agrees, empty_scene, no_ring}
 use Rattle.chord_table.specs.Seen.{Actor, OfNode, OfCaller, Sight, View, Admitted, Shown, Together, Witnessed, Sent, Standing, Spent}
-use Rattle.chord_table.specs.Views.{TableId, Name, word_of, sight_of, OneIs, IsSeenIn, IsTrueOf, HaveOneOwner, Shows, IsKept, IsTrueOfSome, view_of, Register, Assembled, view_of_assembled, with_actor, with_admitted, with_message, testimony, joined_witnesses, MayBecome, MayEnter, MayJoinBehind, known_as, known_in, Stands}
+use Rattle.chord_table.specs.Views.{TableId, sight_of, OneIs, IsSeenIn, IsTrueOf, HaveOneOwner, Shows, IsKept, IsTrueOfSome, view_of, Register, Assembled, view_of_assembled, with_actor, with_admitted, with_message, testimony, joined_witnesses, MayBecome, MayEnter, MayJoinBehind, known_as, known_in, Stands}
 
 -- a table with a word has more than 0 words
 pub some_words : {word words : ℕ} → word < words → 0 < words
@@ -36,18 +35,18 @@ in_table named here there many = (here ∙ sym named, there ∙ sym named, subst
 pub shown_true : {v w : View} {me : Me ℕ View} → me ≡ (v, []) → v ≡ w → IsTrueOfSome me.0 → IsTrueOfSome w
 shown_true is same true_of = subst (λ (u : View). IsTrueOfSome u) (ap (λ (m : Me ℕ View). m.0) is ∙ same) true_of
 
--- after an event the seat shows the actor's new state and has the same word
-pub still_seated : (name : Name) (word : ℕ) (old next : Me ℕ View) (s : Sight) (new : Actor) → old ≡ (view_of s, []) → next ≡ (with_actor new old.0, old.1)
-    → word ≡ word_of name s.actor → word_of name s.actor ≡ word_of name new
-    → (next ≡ (view_of (sight_of next.0), [])) × (word ≡ word_of name (sight_of next.0).actor)
-still_seated name word old next s new is becomes at same =
-    let shown : next ≡ (Shown new s.messages, []) = becomes ∙ ap (λ (m : Me ℕ View). (with_actor new m.0, m.1)) is in
-    subst (λ (m : Me ℕ View). (m ≡ (view_of (sight_of m.0), [])) × (word ≡ word_of name (sight_of m.0).actor)) (sym shown) (refl, at ∙ same)
+-- a seat that shows this sight is an actor's
+pub seated_as : (me : Me ℕ View) (s : Sight) → me ≡ (view_of s, [])
+    → me ≡ (view_of (sight_of me.0), [])
+seated_as me s is =
+    subst (λ (m : Me ℕ View). m ≡ (view_of (sight_of m.0), [])) (sym is) refl
 
-pub seated_after : (name : Name) (word : ℕ) (old next : Me ℕ View) (s : Sight) (new : Actor) (sent : Option Message) → old ≡ (view_of s, []) → next ≡ (with_actor new old.0, old.1)
-    → word ≡ word_of name s.actor → MayBecome s.actor s.messages new sent → (next ≡ (view_of (sight_of next.0), [])) × (word ≡ word_of name (sight_of next.0).actor)
-seated_after name word old next s new sent is becomes at (taken, call, known, event, keeps) =
-    still_seated name word old next s new is becomes at (same_word name s.actor new taken sent call event)
+-- after an event the seat shows the actor's new state
+pub seated_after : (old next : Me ℕ View) (s : Sight) (new : Actor) → old ≡ (view_of s, [])
+    → next ≡ (with_actor new old.0, old.1) → next ≡ (view_of (sight_of next.0), [])
+seated_after old next s new is becomes =
+    seated_as next (record { actor = new; messages = s.messages })
+    (becomes ∙ ap (λ (m : Me ℕ View). (with_actor new m.0, m.1)) is)
 
 no_nodes : Agrees empty_scene
 unfolding node_at
@@ -206,13 +205,14 @@ admit_as id new me a is may =
 pub join_as : (id : ℕ) (new : Actor) (me : Me ℕ View) (a : Assembled) → me ≡ (view_of_assembled a, []) → MayJoinBehind a new
     → Splits IsKept id me.0 (with_admitted new me.0) (Shown new [])
 join_as id (OfCaller caller) me a is may = absurd may
-join_as id (OfNode node out) me a is (pred, messages, first, stands, may) =
+join_as id (OfNode node out) me a is (others, pred, messages, last, stands, may) =
     enter_as id (OfNode node out) me a is (λ scene agrees true. enters scene agrees true)
   where
     enters : (scene : Scene) → Agrees scene → IsTrueOf scene (view_of_assembled a) → Comes scene (OfNode node out)
     enters scene agrees (nodes, callers, named, differ, all) =
         let sight : Sight = record { actor = OfNode pred false; messages = messages } in
-        let seen : IsSeenIn scene sight = All-head (IsSeenIn scene) sight [] (subst (λ (l : List Sight). All (IsSeenIn scene) l) first all) in
+        let seen : IsSeenIn scene sight = All-contains (IsSeenIn scene) a.taken sight all
+        (subst (λ (l : List Sight). Contains l sight) (sym last) (Contains-push others sight)) in
         subst (λ gone. Comes scene (OfNode node gone)) (sym stands) (may_join scene a.register pred node messages agrees nodes named.ids seen may)
 
 pub spends : (other : ℕ) (w : Scene) (views : List View) → Shows w views → Shows w (set views other Spent)

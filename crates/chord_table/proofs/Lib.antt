@@ -1,4 +1,5 @@
 pub mod Numbers
+pub mod Counted
 pub mod Rings
 pub mod Stays
 pub mod Worlds

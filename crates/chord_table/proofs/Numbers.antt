@@ -9,7 +9,6 @@ use Rattle.chord_map.proofs.Equal.{same_or_not, eqb_same, eqb_other}
 use Rattle.chord_map.specs.declared.done.Done.{Done}
 use Rattle.chord_table.specs.Actors.{AreOne, Event}
 use Rattle.chord_table.specs.Seen.{Actor}
-use Rattle.chord_table.specs.Views.{Name, word_of}
 
 same_node : (old new : Node) (taken sent : Option Message) (call : Option Done) → NodeStep old taken new sent call → old.number ≡ new.number
 same_node old new taken sent call (NodeStep.Tells_again ask segment done found past) = refl
@@ -48,11 +47,6 @@ same_caller old new taken sent (CallerStep.Meets note) = refl
 pub one_actor : (old new : Actor) (taken sent : Option Message) (call : Option Done) → Event old taken new sent call → AreOne old new
 one_actor _ _ _ _ _ (Event.Acts {old = old} {new = new} {taken = taken} {sent = sent} {done = call} step) = same_node old new taken sent call step
 one_actor _ _ _ _ _ (Event.Calls {old = old} {new = new} {taken = taken} {sent = sent} step) = same_caller old new taken sent step
-
--- an event keeps its actor's word
-pub same_word : (name : Name) (old new : Actor) (taken sent : Option Message) (call : Option Done) → Event old taken new sent call → word_of name old ≡ word_of name new
-same_word name _ _ _ _ _ (Event.Acts {old = old} {new = new} {taken = taken} {sent = sent} {done = call} step) = same_node old new taken sent call step
-same_word name _ _ _ _ _ (Event.Calls {old = old} {new = new} {taken = taken} {sent = sent} step) = ap (λ n. name.slots + n) (same_caller old new taken sent step)
 
 -- a number that no element has is not found
 pub absent : {A : Type 0} (number_of : A → ℕ) (xs : List A) (number : ℕ) → (Contains (map number_of xs) number → ⊥) → find (λ x. eqb (number_of x) number) xs ≡ None

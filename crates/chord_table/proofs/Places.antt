@@ -1,8 +1,7 @@
 -- What the ring has of each node, as sights show it.
-use Rattle.std.proofs.Common.{◌≡◌, ◌≢◌, ℕ, suc, arith, Bool, false, List, [], ◌∷◌, ◌++◌, ⊎_elim, length, map, refl, sym, ap, ◌∙◌, subst, ◌⊎◌, inl, inr, Contains, All}
+use Rattle.std.proofs.Common.{◌≡◌, ◌≢◌, ℕ, suc, arith, Bool, false, List, [], ◌∷◌, ◌++◌, ⊎_elim, length, map, refl, sym, ap, ◌∙◌, subst, ◌⊎◌, inl, inr, Contains}
 use Rattle.std.specs.Prelude.{is_some, IsTrue}
 use Rattle.std.proofs.lemmas.List.{map-append, nil_from_length}
-use Rattle.std.proofs.lemmas.List.Elements.{All-contains_itself}
 use Rattle.chord_map.proofs.Equal.{same_or_not, eqb_same, eqb_other}
 use Rattle.chord_map.proofs.Lists.{Has, contains_has}
 use Rattle.chord_model.specs.declared.message.Message.{Message}
@@ -13,19 +12,7 @@ use Rattle.chord_table.specs.Rings.{place_at, place_among, AreMembers}
 use Rattle.chord_table.specs.Scenes.{place_of}
 use Rattle.chord_table.specs.Seen.{Actor, OfNode, OfCaller, Sight}
 use Rattle.chord_table.specs.Actors.{AreOne}
-use Rattle.chord_table.specs.Views.{OneIs, Assembled, HasAllNodes, IsWhole, with_node, nodes_among, numbers_among}
-
--- ---- all nodes
-
--- numbers in the order of registration are all numbers
-pub in_order_all : (a : Assembled) → numbers_among a.taken ≡ a.register.nodes → HasAllNodes a
-in_order_all a same = record {
-  nodes = subst (λ (numbers : List ℕ). All (Contains (numbers_among a.taken)) numbers) same
-      (All-contains_itself (numbers_among a.taken));
-}
-
-pub whole_all : (a : Assembled) → IsWhole a → HasAllNodes a
-whole_all a whole = in_order_all a whole.nodes
+use Rattle.chord_table.specs.Views.{OneIs, Assembled, with_node, nodes_among, numbers_among}
 
 -- ---- one more sight
 

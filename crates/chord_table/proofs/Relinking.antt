@@ -14,7 +14,7 @@ use Rattle.chord_model.specs.declared.message.Message.{Message}
 use Rattle.chord_ring.specs.Ring.{links_of}
 use Rattle.chord_ring.specs.Steps.{Ring, Step, with_links}
 use Rattle.chord_table.proofs.Events.{scene_after, true_after, all_sent_after, seen_after}
-use Rattle.chord_table.proofs.Keeping.{joins_as, spent_has_none}
+use Rattle.chord_table.proofs.Keeping.{joins_as, seated_as, spent_has_none}
 use Rattle.chord_table.proofs.Owning.{turned, shown_heir, joined_heir}
 use Rattle.chord_table.proofs.Rings.{agrees_relinked}
 use Rattle.chord_table.proofs.Stays.{Stays, effect_stays}
@@ -24,7 +24,7 @@ use Rattle.chord_table.proofs.Worlds.{event_steps, there_after}
 use Rattle.chord_table.specs.Actors.{IsThere, AreOne, Event}
 use Rattle.chord_table.specs.Scenes.{Scene, Lived, Agrees, RingEffect, bare, links_in, place_of, place_in}
 use Rattle.chord_table.specs.Seen.{Actor, OfNode, OfCaller, Sight, View, Admitted, Shown, Together, Witnessed, Sent, Standing, Spent}
-use Rattle.chord_table.specs.Views.{OneIs, AllDiffer, ShareOne, IsSeenIn, IsStanding, IsTrueOf, HaveOneOwner, IsKept, view_of, sight_of, Name, word_of, with_actor, paired, first_with, second_of, MayRelink, MayRelinkTo}
+use Rattle.chord_table.specs.Views.{OneIs, AllDiffer, ShareOne, IsSeenIn, IsStanding, IsTrueOf, HaveOneOwner, IsKept, view_of, sight_of, with_actor, paired, first_with, second_of, MayRelink, MayRelinkTo}
 
 -- a seat that shows nothing, to stand in for one that is lent to another
 pub vacate_as : (slots word : ℕ) → Enters IsKept slots word (λ found w. ◌≡◌ {A = Me ℕ View} (w, []) (Spent, []))
@@ -306,32 +306,21 @@ relink_as id me s t new is may = of_nodes s.actor t.actor new is may
     of_nodes (OfNode old out) (OfCaller other) new here may = absurd may
     of_nodes (OfCaller old) other new here may = absurd may
 
--- a node that is relinked keeps its number
-pub relinked_word : (name : Name) (a b c : Actor) → MayRelinkTo a b c → word_of name a ≡ word_of name c
-relinked_word name (OfNode old out) (OfNode other crashed) (OfNode new away) (stands, stays, may) = sym (ap (λ (n : Node). n.number) may.is)
-relinked_word name (OfNode old out) (OfNode other crashed) (OfCaller new) may = absurd may
-relinked_word name (OfNode old out) (OfCaller other) new may = absurd may
-relinked_word name (OfCaller old) other new may = absurd may
-
 -- what the seat is once it took in the other
 pub joined_seat : (me you joined : Me ℕ View) (s t : Sight) → me ≡ (view_of s, []) → you ≡ (view_of t, []) → joined ≡ (paired me.0 you.0, me.1) → joined ≡ (Together (s ∷ t ∷ []), [])
 joined_seat me you joined s t is came both =
     both ∙ ap (λ (m : Me ℕ View). (paired m.0 you.0, m.1)) is ∙ ap (λ (y : Me ℕ View). (paired (view_of s) y.0, [])) came
 
--- what the seats are after a step: the first shows the new state at its word, the second what it
--- showed
-pub relinked_seats : (name : Name) (word : ℕ) (me you joined next back : Me ℕ View) (s t : Sight) (new : Actor)
+-- what the seats are after a step: the first shows the new state, the second what it showed
+pub relinked_seats : (me you joined next back : Me ℕ View) (s t : Sight) (new : Actor)
     → me ≡ (view_of s, []) → you ≡ (view_of t, [])
     → joined ≡ (paired me.0 you.0, me.1) → next ≡ (first_with new joined.0, joined.1)
     → back ≡ (second_of joined.0, [])
-    → word ≡ word_of name s.actor → MayRelinkTo s.actor t.actor new
-    → (next ≡ (view_of (sight_of next.0), [])) × (word ≡ word_of name (sight_of next.0).actor) × (back ≡ (view_of t, [])) × (next ≡ (Shown new s.messages, []))
-relinked_seats name word me you joined next back s t new is came both becomes gives at may =
-    let joined_is : joined ≡ (Together (s ∷ t ∷ []), []) = joined_seat me you joined s t is came both in
-    let shown : next ≡ (Shown new s.messages, []) = becomes ∙ ap (λ (m : Me ℕ View). (first_with new m.0, m.1)) joined_is in
-    let first = subst (λ (m : Me ℕ View). (m ≡ (view_of (sight_of m.0), [])) × (word ≡ word_of name (sight_of m.0).actor)) (sym shown) (refl, at ∙ relinked_word name s.actor t.actor new may) in
-    (first.0, first.1, gives ∙ ap (λ (m : Me ℕ View). (second_of m.0, [])) joined_is, shown)
-
--- a seat that shows this sight, at its word
-pub seated_as : (name : Name) (word : ℕ) (me : Me ℕ View) (t : Sight) → me ≡ (view_of t, []) → word ≡ word_of name t.actor → (me ≡ (view_of (sight_of me.0), [])) × (word ≡ word_of name (sight_of me.0).actor)
-seated_as name word me t is at = subst (λ (m : Me ℕ View). (m ≡ (view_of (sight_of m.0), [])) × (word ≡ word_of name (sight_of m.0).actor)) (sym is) (refl, at)
+    → (next ≡ (view_of (sight_of next.0), [])) × (back ≡ (view_of (sight_of back.0), []))
+relinked_seats me you joined next back s t new is came both becomes gives =
+    let joined_is : joined ≡ (Together (s ∷ t ∷ []), []) =
+    joined_seat me you joined s t is came both in (
+      seated_as next (record { actor = new; messages = s.messages })
+          (becomes ∙ ap (λ (m : Me ℕ View). (first_with new m.0, m.1)) joined_is),
+      seated_as back t (gives ∙ ap (λ (m : Me ℕ View). (second_of m.0, [])) joined_is),
+    )

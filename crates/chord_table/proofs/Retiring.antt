@@ -110,7 +110,7 @@ retire_as slots id word me a picked may f is whole (members, are, can) =
     allowed t (scene, lived, agrees, shows) len at fits =
         let (nodes, callers, named, differ, all) = shows.agrees id old at in
         let leaves : CanDepart scene.ring.members node.number =
-        subst (λ (ms : Members). CanDepart ms node.number) (members_same scene a agrees nodes named all whole members are) can in
+        subst (λ (ms : Members). CanDepart ms node.number) (members_same scene a agrees nodes named differ all whole members are) can in
         let sight : Sight = record { actor = OfNode node false; messages = may.messages } in
         let here : node_at node.number scene.world.nodes ≡ Some node =
         (All-contains (IsSeenIn scene) a.taken sight all may.there).0.0 in

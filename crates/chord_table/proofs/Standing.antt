@@ -39,7 +39,7 @@ stand_as id me a number is whole (members, are, principal) =
     allowed t (scene, lived, agrees, shows) at =
         let (nodes, callers, named, differ, all) = shows.agrees id view at in
         let same : members ≡ scene.ring.members =
-        members_same scene a agrees nodes named all whole members are in
+        members_same scene a agrees nodes named differ all whole members are in
         let stands : IsPrincipal scene.ring.members number =
         subst (λ (ms : Members). IsPrincipal ms number) same principal in (
           scene,

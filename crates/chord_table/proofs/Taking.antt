@@ -26,7 +26,7 @@ shared_of_push taken sight [] h = absurd h
 shared_of_push taken sight (other ∷ rest) (inl h) = ⊎_elim (λ o. inl (inl o)) (λ o. inr (inl (turned sight.actor other.actor o))) (one_of_push taken sight other.actor h)
 shared_of_push taken sight (other ∷ rest) (inr h) = ⊎_elim (λ o. inl (inr o)) (λ o. inr (inr o)) (shared_of_push taken sight rest h)
 
-differ_push : (taken : List Sight) (sight : Sight) → AllDiffer taken → (OneIs taken sight.actor → ⊥) → AllDiffer (taken ++ sight ∷ [])
+pub differ_push : (taken : List Sight) (sight : Sight) → AllDiffer taken → (OneIs taken sight.actor → ⊥) → AllDiffer (taken ++ sight ∷ [])
 differ_push [] sight differ none = ((λ h. h), tt)
 differ_push (first ∷ rest) sight differ none = (
   (λ one. ⊎_elim differ.0 (λ o. none (inl (turned sight.actor first.actor o))) (one_of_push rest sight first.actor one)),

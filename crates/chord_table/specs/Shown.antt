@@ -1,12 +1,12 @@
 -- What a look proves: of the world that the seats show, and of its ring.
 use Rattle.std.specs.Prelude.{◌≡◌, ◌≢◌, ℕ, ◌^◌, ◌<◌, ◌⊎◌, if◌then◌else◌, true, Some, is_some, List, [], ◌∷◌, ◌++◌, flat_map, All, Contains}
+use Rattle.std.specs.List.Sorted.{IsPermutation}
 use Rattle.chord_caller.specs.Caller.{Caller, Note, Submission, submission_at, seen_at}
 use Rattle.chord_map.specs.declared.done.Done.{Done}
 use Rattle.chord_model.specs.declared.message.Message.TheVariants.{Note as NoteMessage}
 use Rattle.chord_model.specs.Headline.{Headline}
 use Rattle.chord_model.specs.World.{World, Reached, InOrder, HasOneHolder, node_at, caller_at}
 use Rattle.chord_map.specs.History.{IsLegal, EachOnce, StandsIn}
-use Rattle.chord_model.specs.declared.message.Message.{Message}
 use Rattle.chord_ring.specs.Ring.{Members}
 use Rattle.chord_table.specs.Actors.{node_numbers, caller_numbers}
 use Rattle.chord_table.specs.Rings.{AreMembers, StandsOnRing}
@@ -104,27 +104,21 @@ pub record AssemblyShown (assembled : Assembled) : Type 0 where
   pub once : EachOnce (taken_by_all (callers_among assembled.taken))
   pub one_holder : scene.world.nodes ≢ [] → (x : ℕ) → x < 2 ^ 128 → HasOneHolder x scene.world.nodes
 
--- the world of these nodes and callers, with these messages and this history
-abbrev pub world_of : Assembled → List Message → List Done → World
-world_of assembled sent history = record {
-  nodes = nodes_among assembled.taken;
-  callers = callers_among assembled.taken;
-  sent = sent;
-  history = history;
-}
-
--- These nodes and callers, and no others, are a reachable world. If the ring allowed each crash,
--- those of the nodes that neither crashed nor are gone are one ring.
+-- These nodes and callers, and no others, are a reachable world, which has them in the order of
+-- registration. If the ring allowed each crash, those of the nodes that neither crashed nor are
+-- gone are one ring.
 pub record WholeShown (assembled : Assembled) : Type 0 where
-  pub sent : List Message
-  pub history : List Done
-  pub reached : Reached (world_of assembled sent history)
-  pub messages : All (λ (sight : Sight). All (Contains sent) sight.messages) assembled.taken
-  pub headline : Headline (world_of assembled sent history)
-  pub legal : IsLegal history
-  pub stand : All (IsIn history) (callers_among assembled.taken)
+  pub world : World
+  pub reached : Reached world
+  pub nodes : IsPermutation world.nodes (nodes_among assembled.taken)
+  pub callers : IsPermutation world.callers (callers_among assembled.taken)
+  pub node_order : node_numbers world ≡ assembled.register.nodes
+  pub caller_order : caller_numbers world ≡ assembled.register.callers
+  pub messages : All (λ (sight : Sight). All (Contains world.sent) sight.messages) assembled.taken
+  pub headline : Headline world
+  pub legal : IsLegal world.history
+  pub stand : All (IsIn world.history) (callers_among assembled.taken)
   pub once : EachOnce (taken_by_all (callers_among assembled.taken))
-  pub one_holder : nodes_among assembled.taken ≢ [] → (x : ℕ) → x < 2 ^ 128
-      → HasOneHolder x (nodes_among assembled.taken)
+  pub one_holder : world.nodes ≢ [] → (x : ℕ) → x < 2 ^ 128 → HasOneHolder x world.nodes
   pub ring : assembled.register.premise ≡ true → nodes_among assembled.taken ≢ []
       → (members : Members) → AreMembers assembled members → StandsOnRing members

@@ -46,11 +46,6 @@ no_name = record {
   callers = 0;
 }
 
--- the index of an actor's word: nodes come first
-abbrev pub word_of : Name → Actor → ℕ
-word_of name (OfNode node crashed) = node.number
-word_of name (OfCaller caller) = name.slots + caller.number
-
 -- one of these sights is of this actor
 abbrev pub OneIs : List Sight → Actor → Type 0
 OneIs [] actor = ⊥
@@ -286,15 +281,16 @@ callers_among sights = among with_caller sights
 abbrev pub numbers_among : List Sight → List ℕ
 numbers_among sights = map (λ (node : Node). node.number) (nodes_among sights)
 
--- it took in the seats of all nodes, in any order
+-- It took in the seats of as many nodes as are registered. So it has those of all nodes, since no
+-- two seats are of one actor. It may have taken in some of them long ago, and for good: those of
+-- nodes that were gone.
 pub record HasAllNodes (assembled : Assembled) : Type 0 where
-  pub nodes : All (Contains (numbers_among assembled.taken)) assembled.register.nodes
+  pub nodes : length (nodes_among assembled.taken) ≡ length assembled.register.nodes
 
--- it took in the seats of all that are registered, in the order of registration
+-- it took in the seats of all that are registered
 pub record IsWhole (assembled : Assembled) : Type 0 where
-  pub nodes : numbers_among assembled.taken ≡ assembled.register.nodes
-  pub callers : map (λ (caller : Caller). caller.number) (callers_among assembled.taken)
-      ≡ assembled.register.callers
+  pub nodes : HasAllNodes assembled
+  pub callers : length (callers_among assembled.taken) ≡ length assembled.register.callers
 
 -- the register with one number more
 abbrev pub with_number : Actor → Register → Register
@@ -417,12 +413,12 @@ pub record MayJoin (register : Register) (pred node : Node) : Type 0 where
   pub is : node ≡ newborn
       (joined_links (record { number = node.number; id = node.links.me.id }) pred.links) limit
 
--- the first sight of those that the registrar's seat took in is of this member, and the node may be
+-- the last sight of those that the registrar's seat took in is of this member, and the node may be
 -- admitted behind it
 abbrev pub MayJoinBehind : Assembled → Actor → Type 0
 MayJoinBehind assembled (OfNode node crashed) =
-    (pred : Node) × (messages : List Message)
-    × (assembled.taken ≡ record { actor = OfNode pred false; messages = messages } ∷ [])
+    (others : List Sight) × (pred : Node) × (messages : List Message)
+    × (assembled.taken ≡ others ++ record { actor = OfNode pred false; messages = messages } ∷ [])
     × (crashed ≡ false) × MayJoin assembled.register pred node
 MayJoinBehind assembled (OfCaller caller) = ⊥
 
@@ -430,6 +426,17 @@ MayJoinBehind assembled (OfCaller caller) = ⊥
 abbrev pub crash_actor : ℕ → Actor → Actor
 crash_actor number (OfNode node crashed) = OfNode node ((number == node.number) || crashed)
 crash_actor number (OfCaller caller) = OfCaller caller
+
+-- the last of these sights, and those before it
+abbrev pub last_of : List Sight → Sight
+last_of [] = record { actor = OfNode no_node false; messages = [] }
+last_of (sight ∷ []) = sight
+last_of (sight ∷ second ∷ rest) = last_of (second ∷ rest)
+
+abbrev pub all_but_last : List Sight → List Sight
+all_but_last [] = []
+all_but_last (sight ∷ []) = []
+all_but_last (sight ∷ second ∷ rest) = sight ∷ all_but_last (second ∷ rest)
 
 -- the sight, of a crashed node if it is of the one of this number
 abbrev pub crash_sight : ℕ → Sight → Sight
@@ -447,11 +454,12 @@ abbrev pub broken_actor : Actor → Actor
 broken_actor (OfNode node crashed) = OfNode node true
 broken_actor (OfCaller caller) = OfCaller caller
 
--- the registrar's view, once the node crashed by force whose seat it took in first
+-- the registrar's view, once the node crashed by force whose seat it took in last
 abbrev pub with_broken_node : View → View
-with_broken_node (Admitted nodes callers known (sight ∷ rest)) =
+with_broken_node (Admitted nodes callers known taken) =
+    let last = last_of taken in
     Admitted nodes callers (record known { premise = false })
-    (record { actor = broken_actor sight.actor; messages = sight.messages } ∷ rest)
+    (all_but_last taken ++ record { actor = broken_actor last.actor; messages = last.messages } ∷ [])
 with_broken_node view = view
 
 -- the registrar's view with this node as one that was a principal
@@ -497,17 +505,6 @@ pub record MayRetire (taken : List Sight) (number : ℕ) : Type 0 where
   pub leaving : node.phase ≡ Leaving
   pub nothing : node.held ≡ []
   pub empty : node.outbox ≡ []
-
--- the last of these sights, and those before it
-abbrev pub last_of : List Sight → Sight
-last_of [] = record { actor = OfNode no_node false; messages = [] }
-last_of (sight ∷ []) = sight
-last_of (sight ∷ second ∷ rest) = last_of (second ∷ rest)
-
-abbrev pub all_but_last : List Sight → List Sight
-all_but_last [] = []
-all_but_last (sight ∷ []) = []
-all_but_last (sight ∷ second ∷ rest) = sight ∷ all_but_last (second ∷ rest)
 
 -- the registrar's view without the last sight that it took in
 abbrev pub without_last : View → View

@@ -15,8 +15,8 @@ use atomic_table::Seat;
 use chord_node::Message;
 use std::marker::{Model, PhantomData};
 
-/// An actor's seat, with the index of its word. Contracts see the actor, and messages that were
-/// sent.
+/// An actor's seat, with the index of the word that its steps are at. Contracts see the actor, and
+/// messages that were sent.
 #[derive(Drop)]
 pub(crate) struct ActorSeat<J: Naming> {
     pub(crate) seat: Seat<u8, View>,
@@ -26,15 +26,14 @@ pub(crate) struct ActorSeat<J: Naming> {
 
 impl<J: Naming> Model for ActorSeat<J> {
     ghost use Rattle.std.specs.Prelude.{◌≡◌, ◌<◌, []};
-    ghost use Rattle.chord_table.specs.Views.{Sight, sight_of, view_of, word_of};
+    ghost use Rattle.chord_table.specs.Views.{Sight, sight_of, view_of};
 
     ghost Value = { Sight };
 
     ghost view = { λ a. sight_of a.seat.me.0 };
 
     ghost invariant = { λ a. (a.seat.table_id ≡ J.name.table)
-        × (a.seat.me ≡ (view_of (sight_of a.seat.me.0), []))
-        × (a.word ≡ word_of J.name (sight_of a.seat.me.0).actor) × (a.word < J.name.table.words) };
+        × (a.seat.me ≡ (view_of (sight_of a.seat.me.0), [])) × (a.word < J.name.table.words) };
 }
 
 impl<J: Naming> ActorSeat<J> {

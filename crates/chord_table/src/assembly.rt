@@ -4,7 +4,7 @@ ghost use Rattle.chord_ring.specs.Ring.{Members, CanDepart, IsPrincipal, is_memb
 ghost use Rattle.chord_table.specs.Seen.{OfNode, OfCaller};
 ghost use Rattle.chord_table.specs.Shown.{AssemblyShown, WholeShown};
 ghost use Rattle.chord_table.specs.Rings.{AreMembers, StandsOnRing};
-ghost use Rattle.chord_table.specs.Views.{HasAllNodes, IsTrueOfSome, IsWhole, MayRetire, crash_sight, retire_sight, nodes_among, last_of, all_but_last, as_actor, as_node, node_in, crashed_in, view_of_assembled, word_of};
+ghost use Rattle.chord_table.specs.Views.{HasAllNodes, IsTrueOfSome, IsWhole, MayRetire, crash_sight, retire_sight, nodes_among, last_of, all_but_last, as_actor, as_node, node_in, crashed_in, view_of_assembled};
 
 use crate::actor_seat::ActorSeat;
 use crate::caller_seat::CallerSeat;
@@ -19,7 +19,8 @@ use crate::standing_node::StandingNode;
 use std::marker::{Brand, PhantomData};
 
 impl<J: Naming> Registrar<J> {
-    /// Takes in a node's seat.
+    /// Takes in a node's seat. That of a node that is gone may stay with the registrar's for good:
+    /// it counts from then on wherever the seats of all nodes are asked for.
     pub fn take_node(&mut self, table: &Shared<J>, seat: NodeSeat<J>)
         ensures { self.new ≡ record self.old { taken = self.old.taken ++ as_actor seat ∷ [] } }
     {
@@ -155,16 +156,15 @@ impl<J: Naming> Registrar<J> {
         table.table.shared.join_seat::<Heed>(&mut self.seat, seat);
     }
 
-    /// Gives back the last seat that it took in, which is a node's.
-    pub fn give_node(&mut self, table: &Shared<J>, number: u64) -> NodeSeat<J>
+    /// Gives back the last seat that it took in, which is that of the node in this slot.
+    pub fn give_node(&mut self, table: &Shared<J>, slot: usize) -> NodeSeat<J>
         requires some { self.old.taken ≢ [] }
         requires node { (last_of self.old.taken).actor ≡ OfNode (node_in (last_of self.old.taken).actor) (crashed_in (last_of self.old.taken).actor) }
-        requires own { number ≡ (node_in (last_of self.old.taken).actor).number }
-        requires slot { number < J.name.slots }
+        requires slot { slot < J.name.slots }
         ensures left { self.new ≡ record self.old { taken = all_but_last self.old.taken } }
         ensures seat { result ≡ as_node (last_of self.old.taken) }
     {
-        let seat = self.give(table, number as usize);
+        let seat = self.give(table, slot);
         NodeSeat { seat }
     }
 
@@ -177,7 +177,6 @@ impl<J: Naming> Registrar<J> {
 
     fn give(&mut self, table: &Shared<J>, word: usize) -> ActorSeat<J>
         requires some { self.old.taken ≢ [] }
-        requires own { word ≡ word_of J.name (last_of self.old.taken).actor }
         requires word { word < J.name.table.words }
         ensures left { self.new ≡ record self.old { taken = all_but_last self.old.taken } }
         ensures seat { result ≡ last_of self.old.taken }

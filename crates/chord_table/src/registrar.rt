@@ -2,7 +2,7 @@
 ghost use Rattle.std.specs.Prelude.{◌≡◌, ◌<◌, ◌≤◌, ◌++◌, [], ◌∷◌, true, false, IfOk};
 ghost use Rattle.chord_caller.specs.Answers.{new_caller};
 ghost use Rattle.chord_table.specs.Seen.{OfNode};
-ghost use Rattle.chord_table.specs.Views.{node_in, MayEnter, MayFound, MayJoin, MayJoinBehind, MayOpen, with_number, word_of};
+ghost use Rattle.chord_table.specs.Views.{node_in, MayEnter, MayFound, MayJoin, MayJoinBehind, MayOpen, with_number};
 
 use crate::actor_seat::ActorSeat;
 use crate::caller_seat::CallerSeat;
@@ -62,54 +62,49 @@ impl Registrar<Brand> {
 }
 
 impl<J: Naming> Registrar<J> {
-    /// Admits a new node, and gives the seat that shows it.
+    /// Admits a new node in a slot, and gives the seat that shows it.
     pub fn admit_node<S: EntryStore>(
         &mut self,
         table: &Shared<J>,
-        number: u64,
+        slot: usize,
         node: &Node<S>,
     ) -> NodeSeat<J>
-        requires own { number ≡ node.now.number }
-        requires slot { number < J.name.slots }
-        requires alone { self.old.taken ≡ [] }
+        requires slot { slot < J.name.slots }
         requires may { MayFound self.old.register.nodes node.now }
         ensures admitted { self.new ≡ record self.old {
           register = record self.old.register {
-            nodes = self.old.register.nodes ++ number ∷ [];
+            nodes = self.old.register.nodes ++ node.now.number ∷ [];
             ids = self.old.register.ids ++ node.now.links.me.id.number ∷ [];
           };
         } }
         ensures seat { result ≡ record { node = node.now; crashed = false; messages = [] } }
     {
-        let seat = self.admit::<Brand, Node<S>>(table, number as usize, node);
+        let seat = self.admit::<Brand, Node<S>>(table, slot, node);
         NodeSeat { seat }
     }
 
-    /// Admits a new node behind a member, and gives the seat that shows it: a step of the ring,
-    /// while the caller has the member's seat.
+    /// Admits a new node in a slot, behind a member, and gives the seat that shows it: a step of
+    /// the ring, while the caller has the member's seat.
     pub fn join_node<S: EntryStore>(
         &mut self,
         table: &Shared<J>,
-        number: u64,
+        slot: usize,
         node: &Node<S>,
         pred: &mut NodeSeat<J>,
     ) -> NodeSeat<J>
-        requires own { number ≡ node.now.number }
-        requires slot { number < J.name.slots }
-        requires alone { self.old.taken ≡ [] }
+        requires slot { slot < J.name.slots }
         requires live { pred.old.crashed ≡ false }
         requires may { MayJoin self.old.register pred.old.node node.now }
         ensures admitted { self.new ≡ record self.old {
           register = record self.old.register {
-            nodes = self.old.register.nodes ++ number ∷ [];
+            nodes = self.old.register.nodes ++ node.now.number ∷ [];
             ids = self.old.register.ids ++ node.now.links.me.id.number ∷ [];
           };
         } }
         ensures seat { result ≡ record { node = node.now; crashed = false; messages = [] } }
         ensures pred { pred.new ≡ pred.old }
     {
-        let word = number as usize;
-        let seat = self.admit_behind::<Brand, Node<S>>(table, word, node, &mut pred.seat);
+        let seat = self.admit_behind::<Brand, Node<S>>(table, slot, node, &mut pred.seat);
         NodeSeat { seat }
     }
 
@@ -122,7 +117,6 @@ impl<J: Naming> Registrar<J> {
     ) -> CallerSeat<J>
         requires own { number ≡ core.now.number }
         requires place { number < J.name.callers }
-        requires alone { self.old.taken ≡ [] }
         requires may { MayOpen self.old.register.callers core.now }
         ensures admitted { self.new ≡ record self.old {
           register = record self.old.register {
@@ -139,7 +133,6 @@ impl<J: Naming> Registrar<J> {
     /// Admits a new caller of this number and window, and gives the seat that shows it.
     pub fn open_caller(&mut self, table: &Shared<J>, number: u64, window: u64) -> CallerSeat<J>
         requires place { number < J.name.callers }
-        requires alone { self.old.taken ≡ [] }
         requires may { MayOpen self.old.register.callers (new_caller number window) }
         ensures admitted { self.new ≡ record self.old {
           register = record self.old.register {
@@ -157,7 +150,6 @@ impl<J: Naming> Registrar<J> {
     /// Records that a node crashed by force: nobody asked whether the ring of the others is safe.
     /// From then on the register says so.
     pub fn crash_by_force(&mut self, table: &Shared<J>, seat: NodeSeat<J>) -> NodeSeat<J>
-        requires alone { self.old.taken ≡ [] }
         requires live { seat.crashed ≡ false }
         ensures broken { self.new ≡ record self.old {
           register = record self.old.register { premise = false };
@@ -170,7 +162,6 @@ impl<J: Naming> Registrar<J> {
     }
 
     fn break_actor(&mut self, table: &Shared<J>, taken: ActorSeat<J>) -> ActorSeat<J>
-        requires alone { self.old.taken ≡ [] }
         requires node { taken.actor ≡ OfNode (node_in taken.actor) false }
         ensures broken { self.new ≡ record self.old {
           register = record self.old.register { premise = false };
@@ -200,10 +191,8 @@ impl<J: Naming> Registrar<J> {
         actor: &A,
         pred: &mut ActorSeat<J>,
     ) -> ActorSeat<J>
-        requires own { word ≡ word_of J.name E.actor }
         requires word { word < J.name.table.words }
-        requires alone { self.old.taken ≡ [] }
-        requires may { MayJoinBehind (record self.old { taken = pred.old ∷ [] }) E.actor }
+        requires may { MayJoinBehind (record self.old { taken = self.old.taken ++ pred.old ∷ [] }) E.actor }
         ensures admitted { self.new ≡ record self.old {
           register = with_number E.actor self.old.register;
         } }
@@ -227,7 +216,6 @@ impl<J: Naming> Registrar<J> {
     /// Admits the actor that the proof names by `E.actor`; `actor` is passed only so that the proof
     /// can refer to it.
     fn admit<E: Event, A>(&mut self, table: &Shared<J>, word: usize, actor: &A) -> ActorSeat<J>
-        requires own { word ≡ word_of J.name E.actor }
         requires word { word < J.name.table.words }
         requires may { MayEnter self.old.register E.actor }
         ensures admitted { self.new ≡ record self.old {

@@ -7,9 +7,9 @@
 //! - `buckets`: how many there are.
 //! - `faults 3`, `milliseconds 400`, `still 7`, `empty 2`, `resumed 2`, `doubled 1`: what a report
 //!   takes note of.
-//! - `join-to 500 20`: another report with each time below 1,000 once, so many milliseconds, and so
-//!   long without a reply, whose values could be doubled and were not, is joined by this one, which
-//!   it takes the place of.
+//! - `join-to 500 20`: this report is joined to another one, which takes its place. The other has
+//!   each time below 1,000 once, lasted 500 milliseconds, was 20 of them without a reply, and could
+//!   have doubled values, but did not.
 //! - `table 1..6`: these lines of the report's table, from 1.
 //!
 //! Behind `; ` stands how many times were recorded.

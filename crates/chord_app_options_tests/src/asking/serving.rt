@@ -6,9 +6,9 @@
 //!   session.
 //! - `lines insert abc x|`, `copy insert abc x|`: the client asks this input, as `quoted` has it.
 //! - `request insert/a b/`: it asks the request of these words.
-//! - `load insert 60`: a load of so many requests, over two connections of four in flight, and over
-//!   one that is cut where it is in sessions; of its table what is the same in each run, and of
-//!   sessions that were resumed only that some were.
+//! - `load insert 60`: a load of 60 requests over two connections with four in flight each, and one
+//!   that is cut if it uses sessions. Shows what of its table is the same in each run, and of the
+//!   sessions that were resumed only that there were some.
 //! - `start ask insert a x`: the command of these words, which has the server's port as an option.
 //!   Its lines go to the output of the test itself.
 //!

@@ -52,6 +52,15 @@ fn with_other(text: Text, name: &str, number: u64, usual: u64) -> Text {
     with(text, name, other)
 }
 
+/// With the journal and when it is synced, if there is one.
+fn with_journal(text: Text, line: &ServeLine) -> Text {
+    let Some(path) = line.journal else {
+        return text;
+    };
+    let sync = line.sync;
+    text.and(format_args!(", journal {path} {sync:?}"), 64)
+}
+
 /// Usual are 300 seconds to be idle, 600 to be kept, and 256 MB of buffers.
 fn of_serve(line: ServeLine) -> Text {
     let text = match line.ring {
@@ -67,6 +76,7 @@ fn of_serve(line: ServeLine) -> Text {
     let text = with_other(text, "idle", line.idle, 300);
     let text = with_other(text, "keep", line.keep, 600);
     let text = with_other(text, "buffers", line.buffers, 268_435_456);
+    let text = with_journal(text, &line);
     let text = with_word(text, "ends with its input", line.ends_with_input);
     with_word(text, "notes", line.notes)
 }

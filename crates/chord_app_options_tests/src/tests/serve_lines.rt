@@ -7,7 +7,7 @@ use std::alloc::Global;
 use std::test::Fail;
 
 /// What each line says; of what a line need not name only what is not usual: 300 seconds to be idle,
-/// 600 to be kept, 256 MB of buffers, no notes.
+/// 600 to be kept, 256 MB of buffers, no journal, no notes.
 const SAID: &str = "
 # serve stays, unless --connections says how many it serves
 chord serve --plan p --port 7 > plan p, port 7
@@ -53,6 +53,13 @@ chord serve --plan p --port 7 --stay --buffers 1 > plan p, port 7, buffers 10485
 chord serve --plan p --port 7 --stay --buffers 65536 > plan p, port 7, buffers 68719476736
 chord serve --plan p --port 7 --stay --buffers 0 > refused 2
 chord serve --plan p --port 7 --stay --buffers 65537 > refused 2
+# a journal is brought to the disk each second, or as the line says
+chord serve --plan p --port 7 --journal f > plan p, port 7, journal f Second
+chord serve --plan p --port 7 --journal f --sync second > plan p, port 7, journal f Second
+chord serve --plan p --port 7 --journal f --sync always > plan p, port 7, journal f Always
+chord serve --plan p --port 7 --journal f --sync never > plan p, port 7, journal f Never
+chord serve --plan p --port 7 --journal f --sync now > refused 2
+chord serve --plan p --port 7 --journal > refused 2
 ";
 
 const FAULTS: &str = "
@@ -73,6 +80,7 @@ fault chord serve --plan p --port 7 --connections 1 --operator 2 > 2 the argumen
 fault chord serve --plan p --port 7 --connections 1 --slots 2 > 2 the argument '--connections <K>' cannot be used with '--slots <N>'
 fault chord serve --plan p --port 7 --connections 1 --callers 2 > 2 the argument '--connections <K>' cannot be used with '--callers <N>'
 fault chord serve --plan p --port 7 --connections 1 --buffers 2 > 2 the argument '--connections <K>' cannot be used with '--buffers <MB>'
+fault chord serve --plan p --port 7 --connections 1 --journal f > 2 the argument '--connections <K>' cannot be used with '--journal <FILE>'
 fault chord serve --plan p --port 7 --connections 1 --until-input-ends > 2 the argument '--connections <K>' cannot be used with '--until-input-ends'
 # a number that is none of its option's
 usage chord serve [OPTIONS] <--port <N>|--redis <N>> > Set
@@ -126,6 +134,8 @@ const HELP: &str = concat!(
     "      --slots <N>         If it stays: how many nodes there may ever be, 1 to 4096, else the plan's\n",
     "      --callers <N>       If it stays: how many callers there may be, 1 to 16384, else the plan's\n",
     "      --buffers <MB>      If it stays: how many megabytes all connections may hold, 1 to 65536, else 256\n",
+    "      --journal <FILE>    If it stays: the file that keeps all changes, loaded at the start\n",
+    "      --sync <WHEN>       When the journal is brought to the disk, else second [possible values: always, second, never]\n",
     "  -h, --help              Print help\n",
 );
 

@@ -6,11 +6,11 @@ use chord_app_plan::PlanAsk;
 use chord_app_text::{Finish, ReplyText};
 use chord_caller::SubmitFault;
 use chord_live::{OpenCaller, RingClient};
-use chord_live_ring::{OpenClientFault, ReturnedCaller, Ring};
+use chord_live_ring::{OpenClientFault, Ring};
 use chord_live_types::{AskFault, BeginFault, WaitFault};
 use chord_map::Reply;
 use chord_store::EntryStore;
-use chord_table::Naming;
+use chord_table::{CallerSeat, Naming};
 use std::alloc::Global;
 use std::fmt;
 use std::marker::Model;
@@ -84,7 +84,7 @@ impl AskResults {
 #[derive(Drop)]
 pub struct CallerAnswers<J: Naming> {
     pub results: AskResults,
-    pub caller: Option<ReturnedCaller<J>>,
+    pub caller: Option<CallerSeat<J>>,
     ghost are: { AreOf (callers_in caller) results },
 }
 
@@ -188,6 +188,6 @@ pub fn ask_in_turn<J: Naming, S: EntryStore, R: Wait + Clock>(
     ask_each(rt, &mut client, number, asks, &mut results)?;
     Ok(CallerAnswers {
         results,
-        caller: Some(client.into_returned()),
+        caller: Some(client.into_seat()),
     })
 }

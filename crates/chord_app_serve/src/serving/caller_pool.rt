@@ -3,9 +3,9 @@
 use crate::serving::idle::IdleCaller;
 use chord_app_sockets::Ended;
 use chord_live::RingClient;
-use chord_live_ring::{ReturnedCaller, Ring};
+use chord_live_ring::Ring;
 use chord_store::EntryStore;
-use chord_table::Naming;
+use chord_table::{CallerSeat, Naming};
 use std::alloc::{AllocError, Global};
 use std::sync::atomic::{AtomicU64, Ordering};
 use std::sync::{Mutex, Wait};
@@ -86,11 +86,11 @@ impl<'r, J: Naming, S: EntryStore> CallerPool<'r, J, S> {
     }
 
     /// All callers that were taken back, once they serve no connection any more.
-    pub fn into_callers(self, alloc: Global) -> Result<Vec<ReturnedCaller<J>>, AllocError> {
+    pub fn into_callers(self, alloc: Global) -> Result<Vec<CallerSeat<J>>, AllocError> {
         let resting = self.resting.into_inner();
         let mut callers = Vec::with_capacity(alloc, resting.len())?;
         for idle in resting {
-            callers.push(idle.into_caller().into_returned())?;
+            callers.push(idle.into_caller().into_seat())?;
         }
         Ok(callers)
     }

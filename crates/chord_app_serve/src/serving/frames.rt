@@ -6,8 +6,8 @@ use crate::serving::trying::TryingAsker;
 use chord_app_loop::{Budget, Guest, Met, Owner, Socket};
 use chord_app_sockets::Ended;
 use chord_serve::{
-    BeginRefusal, ClientSession, FrameProtocol, Link, Parted, Resumed, Served, first_opening,
-    tell_callers_spent, tell_no_session, tell_opened, tell_session_known,
+    BeginRefusal, ClientSession, FrameProtocol, Link, Marks, Parted, Resumed, Served,
+    first_opening, tell_callers_spent, tell_no_session, tell_opened, tell_session_known,
 };
 use chord_store::EntryStore;
 use chord_table::Naming;
@@ -226,6 +226,12 @@ impl<'t, 's, 'r, J: Naming, S: EntryStore, R: Wait + Clock + Net, L: Log, W: Wri
     }
 }
 
+impl<J: Naming, S: EntryStore, R, L, W> Marks for FramesHouse<'_, '_, '_, J, S, R, L, W> {
+    fn mark(&self) -> u64 {
+        self.server.mark()
+    }
+}
+
 impl<'t, 's, 'r, J: Naming, S: EntryStore, R: Wait + Clock + Net, L: Log, W: Write> Owner<
     RingFrames<'r, J, S, R>,
     Socket<'t>,
@@ -268,5 +274,9 @@ impl<'t, 's, 'r, J: Naming, S: EntryStore, R: Wait + Clock + Net, L: Log, W: Wri
 
     fn budget(&self) -> &Budget {
         &self.server.budget
+    }
+
+    fn settle(&self, mark: u64) -> u64 {
+        self.server.settle(mark)
     }
 }

@@ -6,7 +6,7 @@ use crate::serving::trying::TryingAsker;
 use chord_app_loop::{Budget, Guest, Met, Owner, Socket};
 use chord_app_sockets::Ended;
 use chord_resp_serve::{CommandProtocol, ServerInfo};
-use chord_serve::{Link, Served};
+use chord_serve::{Link, Marks, Served};
 use chord_store::EntryStore;
 use chord_table::Naming;
 use log::Log;
@@ -30,6 +30,12 @@ pub type RingCommands<'t, 'r, J, S, R> = CommandProtocol<
 pub struct RedisHouse<'t, 's, 'r, J: Naming, S: EntryStore, R, L, W> {
     pub server: &'t Server<'s, 'r, J, S, R, L, W>,
     pub told: &'t Told<'t, J, S, R>,
+}
+
+impl<J: Naming, S: EntryStore, R, L, W> Marks for RedisHouse<'_, '_, '_, J, S, R, L, W> {
+    fn mark(&self) -> u64 {
+        self.server.mark()
+    }
 }
 
 impl<'t, 's, 'r, J: Naming, S: EntryStore, R: Wait + Clock + Net, L: Log, W: Write> Owner<
@@ -70,6 +76,9 @@ impl<'t, 's, 'r, J: Naming, S: EntryStore, R: Wait + Clock + Net, L: Log, W: Wri
         protocol: Option<RingCommands<'t, 'r, J, S, R>>,
     ) {
         if let Some(protocol) = protocol {
+            if protocol.shuts_down() {
+                self.server.until.stop(self.server.service.rt);
+            }
             self.server.take_back(protocol.into_asker());
         }
         self.server.tell(number, ended);
@@ -85,5 +94,9 @@ impl<'t, 's, 'r, J: Naming, S: EntryStore, R: Wait + Clock + Net, L: Log, W: Wri
 
     fn budget(&self) -> &Budget {
         &self.server.budget
+    }
+
+    fn settle(&self, mark: u64) -> u64 {
+        self.server.settle(mark)
     }
 }

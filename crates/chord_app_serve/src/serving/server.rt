@@ -8,6 +8,7 @@ use crate::serving::desk::Desk;
 use crate::serving::frames::{FramesHouse, RingFrames};
 use crate::serving::idle::IdleCaller;
 use crate::serving::info::Told;
+use crate::serving::journal::ServerJournal;
 use crate::serving::redis::{RedisHouse, RingCommands};
 use crate::serving::request_tally::RequestTally;
 use crate::serving::reserved::Reserved;
@@ -21,10 +22,10 @@ use chord_app_sockets::{
     Clients, Door, Doors, Ended, Host, Lines, OncePerSecond, Protocol, ServerSetup, Until,
 };
 use chord_app_text::Finish;
-use chord_live_ring::{ReturnedCaller, Ring, RingParts};
+use chord_live_ring::{Ring, RingParts};
 use chord_serve::{Protocol as ProtocolOfLink, Served, Stream};
 use chord_store::EntryStore;
-use chord_table::Naming;
+use chord_table::{CallerSeat, Naming};
 use log::{Log, info, warn};
 use std::alloc::Global;
 use std::io::{self, Write};
@@ -61,6 +62,7 @@ pub struct Server<'s, 'r, J: Naming, S: EntryStore, R, L, W> {
     accept_warnings: OncePerSecond,
     /// How much all connections may hold.
     pub budget: Budget,
+    pub journal: Option<ServerJournal<'r, J, S>>,
 }
 
 /// The event loops of clients that speak in frames.
@@ -68,6 +70,16 @@ type FramesLoops<'c, 'r, J, S, R> = Loops<RingFrames<'r, J, S, R>, Socket<'c>>;
 
 /// Those of clients that speak Redis's protocol.
 type RedisLoops<'c, 'r, J, S, R> = Loops<RingCommands<'c, 'r, J, S, R>, Socket<'c>>;
+
+impl<J: Naming, S: EntryStore, R, L, W> Server<'_, '_, J, S, R, L, W> {
+    /// Up to where there are changes in the journal; 0 without one.
+    pub fn mark(&self) -> u64 {
+        match &self.journal {
+            Some(journal) => journal.mark(),
+            None => 0,
+        }
+    }
+}
 
 impl<'s, 'r, J: Naming, S: EntryStore, R: Wait + Clock + Net, L: Log, W: Write> Server<
     's,
@@ -78,6 +90,50 @@ impl<'s, 'r, J: Naming, S: EntryStore, R: Wait + Clock + Net, L: Log, W: Write> 
     L,
     W,
 > {
+    /// Writes and syncs what the journal still has to be written.
+    fn end_journal(&self) -> Result<(), Finish> {
+        let Some(journal) = &self.journal else {
+            return Ok(());
+        };
+        journal.end(self.service.rt);
+        if journal.conclude(self.service.rt) {
+            return Ok(());
+        }
+        warn!(self.notes; target: "chord", "fault journal: it is not whole");
+        Err(Finish::Refused)
+    }
+
+    /// Writes the journal, and has event loops look whose answers wait for that. If it cannot be
+    /// done any more, the server stops.
+    fn write_journal<'c>(
+        &self,
+        journal: &ServerJournal<'r, J, S>,
+        frames: &FramesLoops<'c, 'r, J, S, R>,
+        redis: &RedisLoops<'c, 'r, J, S, R>,
+    ) {
+        for _ in self.service.rt.forever() {
+            if !journal.rest(self.service.rt) {
+                break;
+            }
+            if journal.round(self.service.rt) {
+                frames.wake();
+                redis.wake();
+            }
+        }
+        if journal.is_lost() {
+            warn!(self.notes; target: "chord", "fault journal: it cannot be synced");
+            self.until.stop(self.service.rt);
+        }
+    }
+
+    /// Has the journal written up to this mark, and says up to where its changes may be shown.
+    pub fn settle(&self, mark: u64) -> u64 {
+        match &self.journal {
+            Some(journal) => journal.settle(self.service.rt, mark),
+            None => u64::MAX,
+        }
+    }
+
     /// Warns that a connection was ended since it wrote what a web page can make a browser write.
     fn warn_of_foreign(&self, number: u64) {
         warn!(self.notes; target: "chord", "connection {number} sent HTTP or a byte 0 to the port of Redis's protocol: a web page may have tried to reach the store");
@@ -389,7 +445,29 @@ impl<
         }
     }
 
-    /// Starts the nodes, writes the addresses at which clients are served, and serves them.
+    /// Loads the journal, if there is one, and has it written from then on.
+    fn start_journal<E: 't>(
+        &'c self,
+        setup: &'t ServerSetup<'t, L>,
+        scope: &'t Scope<'t, E>,
+        frames: &'t FramesLoops<'c, 'r, J, S, R>,
+        redis: &'t RedisLoops<'c, 'r, J, S, R>,
+    ) -> Result<(), Finish> {
+        let (Some(journal), Some(of)) = (&self.journal, &setup.journal) else {
+            return Ok(());
+        };
+        if let Err(fault) = journal.load(self.service.rt, of, &self.pool, self.notes) {
+            warn!(self.notes; target: "chord", "fault journal: {fault}");
+            return Err(Finish::Refused);
+        }
+        match scope.spawn(move || self.write_journal(journal, frames, redis)) {
+            Ok(_) => Ok(()),
+            Err(_) => Err(Finish::OutOfMemory),
+        }
+    }
+
+    /// Starts the nodes, loads the journal, writes the addresses at which clients are served, and
+    /// serves them.
     fn start_and_accept<E: 't>(
         &'c self,
         setup: &'t ServerSetup<'t, L>,
@@ -402,6 +480,7 @@ impl<
         server
             .service
             .start(scope, setup.plan.nodes.as_slice(), stores)?;
+        self.start_journal(setup, scope, frames, redis)?;
         server.lines.begin(server.service.rt, setup.doors)?;
         if scope.spawn(move || server.write_lines()).is_err() {
             return Err(Finish::OutOfMemory);
@@ -442,7 +521,9 @@ impl<
             self.lines.end(self.service.rt);
             self.end_operators();
             self.service.ring.stop();
-            ended
+            let written = self.end_journal();
+            ended?;
+            written
         })
     }
 }
@@ -524,12 +605,12 @@ fn serve_clients<
 /// each as the threads held it. Only memory that ran out can keep a seat back.
 fn conclude<J: Naming, S: EntryStore>(
     ring: Ring<J, S>,
-    callers: Vec<ReturnedCaller<J>>,
+    callers: Vec<CallerSeat<J>>,
 ) -> Result<WholeRing, Finish>
     ensures { IfOk result (λ ring. StandsWhole ring) }
 {
     let count = callers.len();
-    let closed = ring.close_all(callers);
+    let closed = ring.close_with(callers);
     if closed.is_whole {
         Ok(WholeRing { callers: count })
     } else {
@@ -554,7 +635,7 @@ impl<S: EntryStore + Send, R: Host, L: Log + Sync, W: Write + Send> Serving<'_, 
     fn serve_with<J: Naming + Send + Sync>(
         self,
         ring: &Ring<J, S>,
-    ) -> Result<Vec<ReturnedCaller<J>>, Finish> {
+    ) -> Result<Vec<CallerSeat<J>>, Finish> {
         let Serving {
             rt,
             setup,
@@ -572,6 +653,12 @@ impl<S: EntryStore + Send, R: Host, L: Log + Sync, W: Write + Send> Serving<'_, 
         let pool = CallerPool::new(setup.alloc, ring, until.keeps_callers())?;
         let ServerStores { nodes, spares } = stores;
         let desk = Desk::new(rt, setup, spares)?;
+        let journal = match &setup.journal {
+            Some(journal) => Some(ServerJournal::new(setup.alloc, ring, journal).ok_or(
+                Finish::OutOfMemory,
+            )?),
+            None => None,
+        };
         let server = Server {
             service: &service,
             notes: setup.notes,
@@ -587,6 +674,7 @@ impl<S: EntryStore + Send, R: Host, L: Log + Sync, W: Write + Send> Serving<'_, 
             foreign_warnings: OncePerSecond::new(),
             accept_warnings: OncePerSecond::new(),
             budget: Budget::new(until.buffers()),
+            journal,
         };
         let told = Told {
             rt,

@@ -2,8 +2,8 @@
 
 use crate::checks::check;
 use chord_app_serve_testkit::{
-    Act, Acts, Ending, GOOD, NOTHING, SMALL, Script, Size, Speech, WAITS, expect, expect_end,
-    follow, follow_noted, follow_to_the_end, leave, look_at, serve_beside,
+    Act, Acts, Answer, Ask, Ending, GOOD, NOTHING, SMALL, Script, Size, Speech, WAITS, expect,
+    expect_end, follow, follow_noted, follow_to_the_end, leave, look_at, serve_beside,
 };
 use log::sink::{Discard, Locked};
 use std::alloc::Global;
@@ -52,6 +52,37 @@ const IN_TURN: Script = Script {
     after: &[(1, Act::End)],
     ..NOTHING
 };
+
+/// A client shuts the server down, whose input has not ended. The connection of another client ends
+/// too.
+const SHUT_DOWN: Script = Script {
+    first: &[
+        (0, Act::Connect),
+        (0, Act::Call(1, Ask::Insert(b"x"), Answer::Added)),
+        (1, Act::ConnectRedis),
+        (
+            1,
+            Act::Exchange(b"SHUTDOWN ABORT\r\n", b"-ERR No shutdown in progress.\r\n"),
+        ),
+        (0, Act::Call(2, Ask::Insert(b"x"), Answer::Present)),
+        (
+            1,
+            Act::Exchange(b"PING\r\nSHUTDOWN NOSAVE\r\nPING\r\n", b"+PONG\r\n"),
+        ),
+        (1, Act::End),
+        (0, Act::End),
+    ],
+    ..NOTHING
+};
+
+#[test]
+fn a_client_shuts_the_server_down(rt: HostRuntime) -> Result<(), Fail> {
+    let lines = "connection 1 ended\nconnection 0 ended\n";
+    let pipe = io::pipe(&rt)?;
+    let found = follow(&rt, rt.alloc(), (BOTH, WAITS), SHUT_DOWN, pipe, lines);
+    assert!(rt; found == Some(GOOD), "{found:?}");
+    Ok(())
+}
 
 /// A value that a client of one protocol adds is told to a client of the other. Connections of both
 /// doors are numbered in one row.

@@ -37,6 +37,7 @@ pub fn stay_over<'a, R: Host, L: Log + Sync, W: Write + Send + Drop>(
         settings: plan.settings,
         doors,
         operator: None,
+        journal: None,
         notes,
     };
     stay(rt, &setup, stores, seconds, Some(input), writer)?;

@@ -1,14 +1,15 @@
 //! The end of a ring: one look at all its seats.
 ghost use Rattle.std.specs.Prelude.{◌≡◌};
 
-use super::refusals::{join, peer};
-use super::{C, Said, call, founded, parts_with, settings};
+use super::asking::said;
+use super::{C, founded, parts_with, settings, succeeds};
 use crate::checks::check;
+use chord_ident::Id;
 use chord_live::{Caller, OpenCaller};
-use chord_live_ring::{ReturnedCaller, Ring, RingParts};
+use chord_live_ring::{Ring, RingParts};
 use chord_map::Request;
 use chord_store::CappedStore;
-use chord_table::Naming;
+use chord_table::{CallerSeat, Naming};
 use std::alloc::{AllocError, Global};
 use std::marker::Brand;
 use std::process::Abort;
@@ -23,56 +24,20 @@ enum Back {
     FirstAlone,
 }
 
-/// How a ring takes its callers back.
-#[derive(Clone, Copy, Debug, PartialEq, Eq)]
-enum Closing {
-    /// By `close_with`, which wants them by number.
-    ByNumber,
-    /// By `close_all`.
-    InAnyOrder,
-}
+/// What is given back of a ring's callers, and whether the ring is whole then.
+const ENDS: &[(Back, bool)] = &[
+    (Back::Both, true),
+    (Back::FirstAlone, false),
+    (Back::Swapped, true),
+];
 
 #[test]
-fn a_ring_ends_whole(rt: HostRuntime) {
-    ends(&rt, rt.alloc(), Closing::ByNumber, Back::Both, true);
-}
-
-#[test]
-fn a_caller_that_is_kept_is_missed(rt: HostRuntime) {
-    ends(&rt, rt.alloc(), Closing::ByNumber, Back::FirstAlone, false);
-}
-
-#[test]
-fn callers_are_given_back_by_number(rt: HostRuntime) {
-    ends(&rt, rt.alloc(), Closing::ByNumber, Back::Swapped, false);
-}
-
-#[test]
-fn callers_are_given_back_in_any_order(rt: HostRuntime) {
-    ends(&rt, rt.alloc(), Closing::InAnyOrder, Back::Swapped, true);
-}
-
-#[test]
-fn one_caller_less_is_not_all(rt: HostRuntime) {
-    ends(
-        &rt,
-        rt.alloc(),
-        Closing::InAnyOrder,
-        Back::FirstAlone,
-        false,
-    );
-}
-
-/// A ring ends, whole or not, when these of its callers are given back.
-fn ends<R: Abort + Wait + Clock>(
-    rt: &R,
-    alloc: Global,
-    closing: Closing,
-    back: Back,
-    is_whole: bool,
-) {
-    let parts = parts_with(rt, alloc, settings(3, 2, 1, 1_000));
-    closes::<Brand, R>(rt, alloc, parts, closing, back, is_whole);
+fn a_ring_ends_whole_if_all_callers_come_back(rt: HostRuntime) {
+    for (back, is_whole) in ENDS {
+        let parts = parts_with(&rt, rt.alloc(), settings(3, 2, 1, 1_000));
+        let closed = closes::<Brand, _>(&rt, rt.alloc(), parts, *back);
+        assert!(rt; closed == *is_whole, "{back:?}");
+    }
 }
 
 /// What is given back of two callers.
@@ -81,9 +46,9 @@ fn given_back<J: Naming>(
     first: Caller<'_, J, CappedStore>,
     second: Caller<'_, J, CappedStore>,
     back: Back,
-) -> Result<Vec<ReturnedCaller<J>>, AllocError> {
+) -> Result<Vec<CallerSeat<J>>, AllocError> {
     let mut returned = Vec::with_capacity(alloc, 2)?;
-    let (first, second) = (first.into_returned(), second.into_returned());
+    let (first, second) = (first.into_seat(), second.into_seat());
     match back {
         Back::Both => {
             returned.push(first)?;
@@ -101,7 +66,7 @@ fn given_back<J: Naming>(
     Ok(returned)
 }
 
-/// Two callers of a ring of two nodes, the second of which crashed, are answered.
+/// The first of two callers adds a pair, and the second finds it.
 fn asked<'a, J: Naming, R: Abort + Wait + Clock>(
     rt: &R,
     alloc: Global,
@@ -109,10 +74,12 @@ fn asked<'a, J: Naming, R: Abort + Wait + Clock>(
 ) -> (Caller<'a, J, CappedStore>, Caller<'a, J, CappedStore>) {
     let mut first = ring.open_caller(rt, 1).expect(rt, "a caller");
     let mut second = ring.open_caller(rt, 1).expect(rt, "a second caller");
-    let added = call(rt, &mut first, 0, Request::insert(alloc, b"abc", b"x"));
-    check!(rt; added == Ok(Said::Added), "the first adds a pair");
-    let present = call(rt, &mut second, 0, Request::insert(alloc, b"abc", b"x"));
-    check!(rt; present == Ok(Said::Present), "the second finds it");
+    let request = Request::insert(alloc, b"abc", b"x").expect(rt, "a request");
+    let added = said(first.call(rt, 0, request));
+    let request = Request::insert(alloc, b"abc", b"x").expect(rt, "a request");
+    let present = said(second.call(rt, 0, request));
+    check!(rt; added.as_str() == "added", "the first adds a pair");
+    check!(rt; present.as_str() == "present", "the second finds it");
     (first, second)
 }
 
@@ -122,12 +89,12 @@ fn ring_and_callers<J: Naming, R: Abort + Wait + Clock>(
     alloc: Global,
     parts: RingParts,
     back: Back,
-) -> (Ring<J, CappedStore>, Vec<ReturnedCaller<J>>)
+) -> (Ring<J, CappedStore>, Vec<CallerSeat<J>>)
     requires { parts.name ≡ J.name }
 {
     let ring = founded::<J, CappedStore, R>(rt, parts, CappedStore::new(alloc, 1));
-    let joined = join(rt, alloc, &ring, C, 0);
-    check!(rt; joined == Ok(peer(1, C)), "a second node joins");
+    let joined = succeeds(ring.join(rt, Id::new(C), 0, CappedStore::new(alloc, 1)));
+    check!(rt; joined, "a second node joins");
     let crashed = ring.crash(rt, 1);
     check!(rt; crashed == Ok(()), "it crashes");
     let (first, second) = asked(rt, alloc, &ring);
@@ -135,21 +102,18 @@ fn ring_and_callers<J: Naming, R: Abort + Wait + Clock>(
     (ring, callers)
 }
 
+/// Whether a ring is whole that takes these callers back.
 fn closes<J: Naming, R: Abort + Wait + Clock>(
     rt: &R,
     alloc: Global,
     parts: RingParts,
-    closing: Closing,
     back: Back,
-    is_whole: bool,
-)
+) -> bool
     requires { parts.name ≡ J.name }
 {
     let (ring, callers) = ring_and_callers::<J, R>(rt, alloc, parts, back);
-    let closed = match closing {
-        Closing::ByNumber => ring.close_with(callers),
-        Closing::InAnyOrder => ring.close_all(callers),
-    };
-    assert!(rt; closed.is_whole == is_whole, "{closing:?}, {back:?}");
+    let closed = ring.close_with(callers);
+    let is_whole = closed.is_whole;
     drop(closed);
+    is_whole
 }

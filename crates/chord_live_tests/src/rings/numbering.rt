@@ -3,12 +3,12 @@ ghost use Rattle.std.specs.Prelude.{◌≡◌};
 ghost use Rattle.chord_caller.specs.Answers.{new_caller};
 
 use crate::checks::check;
-use chord_caller::{CallerCore, SubmitFault};
+use chord_caller::CallerCore;
 use chord_live_steps::{Numbers, SeatedCore};
-use chord_live_types::WaitFault;
 use chord_map::Request;
 use chord_node::Message;
 use chord_table::{Naming, Registrar, Shared, TableParts};
+use chord_testkit::Text;
 use std::alloc::Global;
 use std::marker::Brand;
 
@@ -16,62 +16,16 @@ use std::marker::Brand;
 fn a_seated_core_submits_and_meets(rt: HostRuntime) {
     let parts = Registrar::open(rt.alloc(), 1, 2).expect(&rt, "memory for a table");
     let (asked, met) = seated::<Brand>(rt.alloc(), parts).expect(&rt, "memory for two callers");
-    check!(&rt; asked.before == (0, None, false), "it waits for nothing");
-    check!(&rt; asked.sent == (1, Some(1)), "its first call has number 1");
-    check!(&rt;
-        asked.heard == Some(WaitFault::NoAnswer),
-        "its own call is no reply"
-    );
-    check!(&rt;
-        asked.after == (Some(1), true, true),
-        "which waits, and was submitted"
-    );
-    check!(&rt;
-        asked.refusal == Some(SubmitFault::WindowFull),
-        "its window has room for one"
-    );
-    check!(&rt; asked.again == Some(1), "it is sent again under its number");
-    check!(&rt; asked.number == 0, "its seat has its number");
-    check!(&rt;
-        met.known == (0, 0),
-        "another caller took and was told nothing"
-    );
-    check!(&rt; met.after == (0, 0), "a note of nothing tells it nothing");
-    check!(&rt;
-        met.reply == Some(false),
-        "it has no reply to its request 1"
-    );
+    // It waits for nothing, its first call has number 1, which is no reply to it; it waits for that
+    // then, with room for no other one, and sends it again.
+    let wanted = "0 None false, 1 Some(1), NoAnswer, Some(1) true true, WindowFull, Some(1)";
+    check!(&rt; asked.as_str() == wanted, "a core with its seat submits and sends again");
+    // Another caller took and was told nothing, nor does a note of nothing tell it anything, and it
+    // has no reply to its request 1.
+    check!(&rt; met.as_str() == "(0, 0), (0, 0), false", "another one meets its note");
 }
 
-/// What a core with its seat answers before and after it submits.
-#[derive(Clone, Copy)]
-struct SeatAsked {
-    /// Its floor, the least number that waits, and whether 1 waits.
-    before: (u64, Option<u64>, bool),
-    /// The number that it gives, and the number of the call that is sent.
-    sent: (u64, Option<u64>),
-    /// How it takes its own call.
-    heard: Option<WaitFault>,
-    /// The least number that waits, whether 1 waits, and whether 1 was submitted.
-    after: (Option<u64>, bool, bool),
-    refusal: Option<SubmitFault>,
-    /// The number of the call that is sent again.
-    again: Option<u64>,
-    /// The number that goes with its seat.
-    number: u64,
-}
-
-/// What a core with its seat knows before and after it met a note.
-#[derive(Clone, Copy)]
-struct SeatMet {
-    /// How many calls it took, and how many it was told of.
-    known: (usize, usize),
-    after: (usize, usize),
-    /// Whether it has a reply to request 1.
-    reply: Option<bool>,
-}
-
-fn seated<J: Naming>(alloc: Global, parts: TableParts) -> Option<(SeatAsked, SeatMet)>
+fn seated<J: Naming>(alloc: Global, parts: TableParts) -> Option<(Text, Text)>
     requires name { parts ≡ J.name }
     requires slots { parts.slots ≡ 1 }
     requires callers { parts.callers ≡ 2 }
@@ -98,36 +52,39 @@ fn call_in(message: &Message) -> Option<u64> {
     }
 }
 
-/// What a core answers that submits its first request.
+/// What a core answers that submits its first request: its floor, the least number that waits, and
+/// whether 1 waits; the number that it gives, and that of the call that is sent; how it takes its own
+/// call; the least number that waits, whether 1 waits, and whether 1 was submitted; why it refuses
+/// another one; the number of the call that is sent again, and of its seat.
 fn asked_by<J: Naming>(
     alloc: Global,
     table: &Shared<J>,
     mut own: SeatedCore<J, CallerCore>,
-) -> Option<SeatAsked>
+) -> Option<Text>
     requires own { own.caller ≡ new_caller own.caller.number 1 }
 {
-    let before = (own.floor(), own.pending(), own.is_pending(1));
+    let before = Text::of(format_args!(
+        "{} {:?} {}",
+        own.floor(),
+        own.pending(),
+        own.is_pending(1)
+    ));
     let (number, envelope) = own.submit(table, insert(alloc)?).ok()?;
-    let sent = (number, call_in(envelope.message()));
-    let heard = own.take(table, envelope, 1).err();
-    let after = (own.pending(), own.is_pending(1), own.was_submitted(1));
+    let sent = call_in(envelope.message());
+    let heard = own.take(table, envelope, 1).err()?;
+    let text = before.and(format_args!(", {number} {sent:?}, {heard:?}"), 64);
+    let pending = own.pending();
+    let waits = own.is_pending(1);
+    let was_submitted = own.was_submitted(1);
     let request = insert(alloc)?;
-    let refusal = own.refusal(&request);
+    let refusal = own.refusal(&request)?;
     drop(request);
     let again = sent_again(table, &mut own);
     own.look(table);
     drop(own.witness(table));
-    let (number, seat) = own.into_seat();
-    drop(seat);
-    Some(SeatAsked {
-        before,
-        sent,
-        heard,
-        after,
-        refusal,
-        again,
-        number,
-    })
+    drop(own.into_seat());
+    let text = text.and(format_args!(", {pending:?} {waits} {was_submitted}"), 64);
+    Some(text.and(format_args!(", {refusal:?}, {again:?}"), 64))
 }
 
 /// Insert `x` under `a`.
@@ -151,24 +108,21 @@ fn known_by<J: Naming>(own: &SeatedCore<J, CallerCore>) -> (usize, usize) {
     (own.mine().len(), own.told().len())
 }
 
-/// What `one` knows before and after it met a note of `zero`.
+/// How many calls `one` took and was told of, before and after it met a note of `zero`, and whether
+/// it has a reply to request 1.
 fn met_by<J: Naming>(
     table: &Shared<J>,
     zero: &mut SeatedCore<J, CallerCore>,
     one: &mut SeatedCore<J, CallerCore>,
-) -> Option<SeatMet>
+) -> Option<Text>
     ensures { zero.new ≡ zero.old }
 {
     let known = known_by(one);
     let note = zero.show(table).ok()?;
     one.meet(table, note).ok()?;
     let after = known_by(one);
-    let reply = has_reply(one);
-    Some(SeatMet {
-        known,
-        after,
-        reply,
-    })
+    let reply = has_reply(one)?;
+    Some(Text::of(format_args!("{known:?}, {after:?}, {reply}")))
 }
 
 /// Whether a core has a reply to its request 1; None where memory was out.

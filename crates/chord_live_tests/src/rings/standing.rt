@@ -4,7 +4,7 @@ ghost use Rattle.std.specs.Prelude.{◌≡◌, ◌<◌, None, Some, IfSome};
 ghost use Rattle.chord_caller.specs.Caller.{CallerStep};
 ghost use Rattle.chord_caller.specs.Caller.Letter.{AskLetter};
 
-use super::{Said, founded, parts_with, said_in, settings};
+use super::{founded, parts_with, settings};
 use crate::checks::check;
 use chord_caller::{Ask, CallerCore};
 use chord_ident::Id;
@@ -14,6 +14,7 @@ use chord_map::Request;
 use chord_node::Message;
 use chord_store::CappedStore;
 use chord_table::{CallerSeat, Envelope, Naming};
+use chord_testkit::{CallText, Text};
 use std::alloc::Global;
 use std::marker::Brand;
 use std::process::Abort;
@@ -33,24 +34,15 @@ fn a_call_with_its_identifier_is_carried(rt: HostRuntime) {
 }
 
 /// A ring of one node carries the call of its first caller, admits a client, and has no room for a
-/// third; then its node crashes.
+/// third.
 fn carries<J: Naming, R: Abort + Wait + Clock>(rt: &R, alloc: Global, parts: RingParts)
     requires { parts.name ≡ J.name }
 {
     let ring = founded::<J, CappedStore, R>(rt, parts, CappedStore::new(alloc, 1));
     let told = told_by_id(rt, alloc, &ring);
-    check!(rt;
-        told == Some(ADDED),
-        "the reply to a call comes back to its caller"
-    );
+    check!(rt; is_added(told), "the reply to a call comes back to its caller");
     admits_a_client(rt, &ring);
-    check!(rt; ring.is_live(0), "node 0 is a member");
-    check!(rt; !ring.is_live(1), "there is no node 1");
-    let crashed = ring.crash(rt, 0).is_ok();
-    let is_live = ring.is_live(0);
     ring.close();
-    check!(rt; crashed, "a member can crash");
-    check!(rt; !is_live, "a node that crashed is no member");
 }
 
 /// The reply to an insert of the first caller, which is carried with the identifier of its key.
@@ -58,14 +50,11 @@ fn told_by_id<J: Naming, R: Abort + Wait + Clock>(
     rt: &R,
     alloc: Global,
     ring: &Ring<J, CappedStore>,
-) -> Option<Told> {
+) -> Option<Text> {
     let (mut core, mut seat) = ring.admit_caller(rt, 1).ok()?;
     let ask = submitted(alloc, &mut core)?;
     let keyed = Keyed::new(seat.send(ring.table(), &core, Message::Ask(ask)));
-    check!(rt;
-        keyed.id == Id::of_bytes(b"a"),
-        "a call goes with the identifier of its key"
-    );
+    check!(rt; keyed.id == Id::of_bytes(b"a"), "a call goes with the identifier of its key");
     let carried = ring.carry_keyed(rt, 0, keyed)?;
     check!(rt; carried.from == 0, "node 0 answers");
     check!(rt; carried.caller == 0, "the first caller has number 0");
@@ -95,7 +84,9 @@ fn stands<J: Naming, R: Abort + Wait + Clock>(rt: &R, alloc: Global, parts: Ring
     requires { parts.name ≡ J.name }
 {
     let ring = founded::<J, CappedStore, R>(rt, parts, CappedStore::new(alloc, 1));
-    runs(rt, &ring);
+    check!(rt; ring.tries() == 3, "a request is sent as often as the settings say");
+    let left = ring.time_left(rt, &None, ring.wait_of_try());
+    check!(rt; left == Duration::from_millis(5), "and waits as long as they say");
     admits(rt, alloc, &ring);
     let spent = ring.admit_caller(rt, 1).err();
     check!(rt;
@@ -103,31 +94,9 @@ fn stands<J: Naming, R: Abort + Wait + Clock>(rt: &R, alloc: Global, parts: Ring
         "a ring for one caller admits no second one"
     );
     ring.stop();
-    let (is_stopped, left) = (
-        ring.is_stopped(),
-        ring.time_left(rt, &None, ring.wait_of_try()),
-    );
-    ring.close();
-    check!(rt; is_stopped, "a ring that was stopped is stopped");
-    check!(rt;
-        left == Duration::from_millis(0),
-        "in a stopped ring nobody waits"
-    );
-}
-
-fn runs<J: Naming, R: Abort + Wait + Clock>(rt: &R, ring: &Ring<J, CappedStore>) {
-    check!(rt; ring.was_admitted(0), "node 0 was created");
-    check!(rt; !ring.was_admitted(1), "node 1 was not");
-    check!(rt; !ring.is_stopped(), "the ring runs");
-    check!(rt;
-        ring.tries() == 3,
-        "a request is sent as often as the settings say"
-    );
     let left = ring.time_left(rt, &None, ring.wait_of_try());
-    check!(rt;
-        left == Duration::from_millis(5),
-        "and waits as long as they say"
-    );
+    ring.close();
+    check!(rt; left == Duration::from_millis(0), "in a stopped ring nobody waits");
 }
 
 fn admits<J: Naming, R: Abort + Wait + Clock>(rt: &R, alloc: Global, ring: &Ring<J, CappedStore>) {
@@ -140,10 +109,7 @@ fn admits<J: Naming, R: Abort + Wait + Clock>(rt: &R, alloc: Global, ring: &Ring
     drop(seat);
     drop(core);
     check!(rt; number == 0, "the first caller has number 0");
-    check!(rt;
-        told == Some(ADDED),
-        "its insert is carried, and the reply comes to it"
-    );
+    check!(rt; is_added(told), "its insert is carried, and the reply comes to it");
     let more = is_there(ring.hear(rt, number, Duration::from_millis(0)));
     check!(rt; !more, "nothing else comes");
 }
@@ -153,20 +119,12 @@ fn is_there<T: Drop>(value: Option<T>) -> bool {
     value.is_some()
 }
 
-/// A reply that came to a caller.
-#[derive(Clone, Copy, PartialEq, Eq)]
-struct Told {
-    caller: u64,
-    number: u64,
-    said: Said,
-}
+/// The reply to the first call of the first caller, which added a pair.
+const ADDED: &str = "0#1 added";
 
-/// The first call of the first caller added a pair.
-const ADDED: Told = Told {
-    caller: 0,
-    number: 1,
-    said: Said::Added,
-};
+fn is_added(told: Option<Text>) -> bool {
+    told.is_some_and(|told| told.as_str() == ADDED)
+}
 
 /// The reply to the insert of a caller that is carried.
 fn answered<J: Naming, R: Wait + Clock>(
@@ -176,7 +134,7 @@ fn answered<J: Naming, R: Wait + Clock>(
     number: u64,
     core: &mut CallerCore,
     seat: &mut CallerSeat<J>,
-) -> Option<Told>
+) -> Option<Text>
     requires shown { core.old ≡ seat.old.caller }
     requires own { number < J.name.callers }
 {
@@ -211,13 +169,13 @@ fn carried<J: Naming, R: Wait + Clock>(
     ring.hear(rt, number, Duration::from_millis(1_000))
 }
 
-fn told_in(message: Message) -> Option<Told> {
+fn told_in(message: Message) -> Option<Text> {
     let told = match &message {
-        Message::Told(told) => Some(Told {
+        Message::Told(told) => Some(Text::of(CallText {
             caller: told.caller,
             number: told.number,
-            said: said_in(&told.reply),
-        }),
+            reply: &told.reply,
+        })),
         _ => None,
     };
     drop(message);

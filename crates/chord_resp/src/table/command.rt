@@ -47,4 +47,6 @@ pub enum Command {
     Exec,
     /// DISCARD: the transaction ends, and nothing of it is done.
     Discard,
+    /// SHUTDOWN: the server stops. The connection ends without an answer.
+    Shutdown,
 }

@@ -1,6 +1,6 @@
 //! The commands that ask the ring nothing.
 ghost use Rattle.std.specs.Prelude.{◌≡◌};
-ghost use Rattle.chord_resp.specs.Table.{counted, ping_of, select_of, hello_of, client_of, command_command, config_of, connection_command};
+ghost use Rattle.chord_resp.specs.Table.{counted, ping_of, select_of, hello_of, client_of, command_command, config_of, shutdown_of, connection_command};
 
 use crate::reading::word::Word;
 use crate::table::command::Command;
@@ -122,6 +122,26 @@ fn config_of(mut operands: Operands) -> Result<Command, Refusal>
     }
 }
 
+/// SHUTDOWN and how: nothing is written anywhere, so each way is the same.
+#[tactic(auto, unfolding(crate::specs::Table::shutdown_of))]
+fn shutdown_of(mut operands: Operands) -> Result<Command, Refusal>
+    ensures { result ≡ shutdown_of operands }
+{
+    while let Some(word) = operands.next() {
+        if is_text(&word, b"abort") {
+            return Err(Refusal::NothingToAbort);
+        }
+        let is_way = is_text(&word, b"nosave")
+            || is_text(&word, b"save")
+            || is_text(&word, b"now")
+            || is_text(&word, b"force");
+        if !is_way {
+            return Err(Refusal::Syntax);
+        }
+    }
+    Ok(Command::Shutdown)
+}
+
 /// What another verb calls for.
 pub fn connection_command(verb: Verb, operands: Operands) -> Result<Command, Refusal>
     ensures { result ≡ connection_command verb operands }
@@ -140,6 +160,7 @@ pub fn connection_command(verb: Verb, operands: Operands) -> Result<Command, Ref
         Verb::Discard => Ok(Command::Discard),
         Verb::Watch => Err(Refusal::NoTransactions),
         Verb::Unwatch => Ok(Command::Accept),
+        Verb::Shutdown => shutdown_of(operands),
         _ => Ok(Command::Quit),
     }
 }

@@ -37,6 +37,10 @@ pub enum Refusal {
     NothingToExecute,
     /// DISCARD without MULTI.
     NothingToDiscard,
+    /// SHUTDOWN ABORT: no server that stops goes on.
+    NothingToAbort,
+    /// A word that the command does not know.
+    Syntax,
     /// The set has 1,000 members.
     SetFull(Progress),
     /// The node's store is full. The request may still act.

@@ -31,10 +31,11 @@ pub enum Verb {
     Discard,
     Watch,
     Unwatch,
+    Shutdown,
 }
 
 /// All names, those of sets first.
-pub const ALL: [Verb; 23] = [
+pub const ALL: [Verb; 24] = [
     Verb::Sadd,
     Verb::Srem,
     Verb::Smembers,
@@ -58,6 +59,7 @@ pub const ALL: [Verb; 23] = [
     Verb::Discard,
     Verb::Watch,
     Verb::Unwatch,
+    Verb::Shutdown,
 ];
 
 /// Whether the bytes are the text, in upper or lower case.
@@ -108,6 +110,7 @@ impl Verb {
             Verb::Discard => b"discard",
             Verb::Watch => b"watch",
             Verb::Unwatch => b"unwatch",
+            Verb::Shutdown => b"shutdown",
         }
     }
 
@@ -146,7 +149,7 @@ impl Verb {
             Verb::Smembers | Verb::Scard | Verb::Type | Verb::Echo | Verb::Select => operands == 1,
             Verb::Sismember => operands == 2,
             Verb::Ping | Verb::Hello | Verb::Info => operands <= 1,
-            Verb::Command => true,
+            Verb::Command | Verb::Shutdown => true,
             Verb::Quit | Verb::Reset | Verb::Multi | Verb::Exec | Verb::Discard | Verb::Unwatch =>
                 operands == 0,
         }

@@ -109,6 +109,8 @@ fn fixed_text(refusal: &Refusal) -> &'static [u8]
         Refusal::Aborted => b"EXECABORT Transaction discarded because of previous errors.",
         Refusal::NothingToExecute => b"ERR EXEC without MULTI",
         Refusal::NothingToDiscard => b"ERR DISCARD without MULTI",
+        Refusal::NothingToAbort => b"ERR No shutdown in progress.",
+        Refusal::Syntax => b"ERR syntax error",
         Refusal::SetFull(_) => b"ERR set is full: it has 1000 members",
         Refusal::StoreFull(_) => b"OOM the node's store is full",
         Refusal::NoAnswer(_) => b"TRYAGAIN no answer in time, it may have acted",

@@ -1,5 +1,5 @@
 //! One connection, which owns its stream.
-ghost use Rattle.std.specs.Prelude.{◌≡◌, ◌≢◌, ◌⊎◌, ◌↔◌, ◌∷◌, [], ℕ, ◌<◌, List, Result, length, take, drop, true, false, Ok, Some, None, IfOk, IfErr, IsTrue, OnErr};
+ghost use Rattle.std.specs.Prelude.{◌≡◌, ◌≢◌, ◌⊎◌, ◌↔◌, ◌∷◌, [], ℕ, ◌<◌, ◌≤◌, List, Result, length, take, drop, true, false, Ok, Some, None, IfOk, IfErr, IsTrue, OnErr};
 ghost use Rattle.std.specs.Io.KnownBytes.{Appends, Consumes, IsAtEnd};
 ghost use Rattle.chord_serve.specs.Runs.{Run};
 ghost use Rattle.chord_serve.specs.Stages.{stage_after, tries_after};
@@ -11,6 +11,7 @@ ghost use Rattle.chord_serve.specs.declared.link.stage.Step.TheVariants.{Later};
 ghost use Rattle.chord_serve.specs.declared.served.Served.{Served as ServedOf};
 
 use crate::link::machine::Machine;
+use crate::link::marks::Marks;
 use crate::link::outbox::Outbox;
 use crate::link::protocol::Protocol;
 use crate::link::stage::Stage;
@@ -18,20 +19,23 @@ use crate::link::stream::Stream;
 use crate::served::Served;
 use http_server::Log;
 use std::alloc::Global;
-use std::io;
+use std::io::{self, ErrorKind};
 use std::os::fd::{AsRawFd, RawFd};
 
 /// How many requests `advance` answers at most, so that others get their turn.
 const MOST_ANSWERS: u32 = 64;
 
 /// A connection. Its driver reads while it `wants_read`, calls `advance` behind each read, writes
-/// while it `wants_write`, and calls `try_again` or `stop_waiting` while it `waits`, until it
-/// `is_done`.
+/// while it `wants_write` and `may_write`, and calls `try_again` or `stop_waiting` while it `waits`,
+/// until it `is_done`.
 ///
-/// What it wrote is a prefix of the answers to the requests that it read.
+/// What it wrote is a prefix of the answers to the requests that it read. It writes none before the
+/// changes are written that the answer may show.
 #[derive(Drop)]
 pub struct Link<P: Protocol, S: Stream> {
     machine: Machine<P, S>,
+    /// Up to where changes must be written before what is due may be.
+    mark: u64,
     ghost told: { ∥ Told P.hears P.says P.stops P.rests P.idle P.begun P.between S.left S.held
         machine.first.items machine.stream machine.due machine.stage machine.protocol ∥₁ },
 }
@@ -44,6 +48,7 @@ impl<P: Protocol + Drop, S: Stream + Drop> Link<P, S> {
         ensures stage { result.machine.stage ≡ Stage.Answers }
         ensures lost { result.machine.is_lost ≡ false }
         ensures due { result.machine.due ≡ [] }
+        ensures mark { result.mark ≡ 0 }
     {
         let none = Log::new();
         let first = none.and(&stream, &protocol);
@@ -57,7 +62,7 @@ impl<P: Protocol + Drop, S: Stream + Drop> Link<P, S> {
             tries: 0,
             is_lost: false,
         };
-        Link { machine }
+        Link { machine, mark: 0 }
     }
 }
 
@@ -66,7 +71,7 @@ impl<P: Protocol, S: Stream + Drop> Link<P, S> {
     pub fn into_protocol(self) -> P
         ensures { result ≡ self.machine.protocol }
     {
-        let Link { machine } = self;
+        let Link { machine, mark: _ } = self;
         let Machine {
             first: _,
             alloc: _,
@@ -194,8 +199,9 @@ impl<P: Protocol, S: Stream> Link<P, S> {
     }
 
     /// Answers what is whole.
-    pub fn advance(&mut self)
+    fn answer_some(&mut self)
         ensures first { self.new.machine.first ≡ self.old.machine.first }
+        ensures mark { self.new.mark ≡ self.old.mark }
         ensures stream { self.new.machine.stream ≡ self.old.machine.stream }
         ensures answered { (count : ℕ)
             × Run P.hears P.says P.stops P.rests P.idle P.begun
@@ -214,9 +220,31 @@ impl<P: Protocol, S: Stream> Link<P, S> {
         }
     }
 
-    /// Tries the request once more that waits.
-    pub fn try_again(&mut self)
+    /// Answers what is whole. The answers may show changes up to where there are some then.
+    pub fn advance<M: Marks>(&mut self, marks: &M)
         ensures first { self.new.machine.first ≡ self.old.machine.first }
+        ensures mark { self.old.mark ≤ self.new.mark }
+        ensures stream { self.new.machine.stream ≡ self.old.machine.stream }
+        ensures answered { (count : ℕ)
+            × Run P.hears P.says P.stops P.rests P.idle P.begun
+            self.old.machine.protocol self.old.machine.due
+            count self.new.machine.protocol self.new.machine.due
+            × (count ≡ 0 → WantsAdvance self.old.machine.stage self.old.machine.is_lost
+            self.old.machine.due → ⊥)
+            × ((count ≡ MOST_ANSWERS) ⊎ (WantsAdvance self.new.machine.stage
+            self.new.machine.is_lost self.new.machine.due → ⊥)) }
+    {
+        let answers = self.wants_advance();
+        self.answer_some();
+        if answers {
+            self.mark = self.mark.max(marks.mark());
+        }
+    }
+
+    /// Tries the request once more that waits.
+    pub fn try_again<M: Marks>(&mut self, marks: &M)
+        ensures first { self.new.machine.first ≡ self.old.machine.first }
+        ensures mark { self.old.mark ≤ self.new.mark }
         ensures stream { self.new.machine.stream ≡ self.old.machine.stream }
         ensures tried { self.old.machine.stage ≡ Stage.Waits → (step : Result StepOf ServedOf)
             × (self.new.machine.stage ≡ stage_after step)
@@ -229,12 +257,14 @@ impl<P: Protocol, S: Stream> Link<P, S> {
     {
         if self.waits() {
             self.machine.step(true);
+            self.mark = self.mark.max(marks.mark());
         }
     }
 
     /// Tries the request that waits for the last time: if it has no answer it is answered as such.
-    pub fn stop_waiting(&mut self)
+    pub fn stop_waiting<M: Marks>(&mut self, marks: &M)
         ensures first { self.new.machine.first ≡ self.old.machine.first }
+        ensures mark { self.old.mark ≤ self.new.mark }
         ensures stream { self.new.machine.stream ≡ self.old.machine.stream }
         ensures stopped { self.old.machine.stage ≡ Stage.Waits → (step : Result StepOf ServedOf)
             × (step ≢ Ok Later) × (self.new.machine.stage ≡ stage_after step)
@@ -246,11 +276,29 @@ impl<P: Protocol, S: Stream> Link<P, S> {
     {
         if self.waits() {
             self.machine.step(false);
+            self.mark = self.mark.max(marks.mark());
         }
     }
 
-    /// Writes once, if there is something to write.
-    pub fn write_to(&mut self) -> io::Result<usize>
+    /// Up to where changes must be written before what is due may be.
+    pub fn mark(&self) -> u64
+        ensures { result ≡ self.now.mark }
+    {
+        self.mark
+    }
+
+    /// Whether what is due may be written, where changes are written up to this mark.
+    pub fn may_write(&self, written: u64) -> bool
+        ensures { IsTrue result ↔ (self.now.mark ≤ written) }
+    {
+        self.mark <= written
+    }
+
+    /// Writes once, if there is something to write. Changes are written up to this mark: what may
+    /// show later ones is not written, as if the stream took nothing.
+    pub fn write_to(&mut self, written: u64) -> io::Result<usize>
+        ensures mark { self.new.mark ≡ self.old.mark }
+        ensures early { written < self.old.mark → self.new.machine ≡ self.old.machine }
         ensures first { self.new.machine.first ≡ self.old.machine.first }
         ensures protocol { self.new.machine.protocol ≡ self.old.machine.protocol }
         ensures stage { self.new.machine.stage ≡ self.old.machine.stage }
@@ -263,6 +311,9 @@ impl<P: Protocol, S: Stream> Link<P, S> {
             (S.held self.new.machine.stream) (take n self.old.machine.due)
             × (self.new.machine.due ≡ drop n self.old.machine.due)) }
     {
+        if !self.may_write(written) {
+            return Err(io::Error::from(ErrorKind::WouldBlock));
+        }
         if !self.wants_write() {
             return Ok(0);
         }

@@ -31,13 +31,22 @@ say select 0\n > +OK|
 say client getname\n > $-1|
 say client id\n > :7|
 say command\n > *0|
-say command count\n > :23|
+say command count\n > :24|
 say config get x\n > *0|
 say info\n > $5|a:b||
 say get k\n > -ERR unknown command 'get'|
 say quit\n > Quit +OK|
 # nothing behind QUIT is answered
 say ping\n > Quit
+
+== shutdown
+say multi\n > -ERR transactions are not served|
+say shutdown\n > -ERR transactions are not served|
+say discard\n > +OK|
+say shutdown abort\n > -ERR No shutdown in progress.|
+say shutdown now later\n > -ERR syntax error|
+# it has no answer
+say shutdown NoSave now force save\n > Quit
 
 == hello
 say hello 2\n > *14|$6|server|$5|chord|$7|version|$5|7.0.0|$5|proto|:2|$2|id|:7|$4|mode|$10|standalone|$4|role|$6|master|$7|modules|*0|

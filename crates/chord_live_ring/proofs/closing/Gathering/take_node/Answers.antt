@@ -1,22 +1,28 @@
-use Rattle.std.proofs.Common.{List, ap, sym, subst, ◌∙◌}
-use Rattle.chord_live_ring.proofs.Gathering.{node_next, callers_without, with_node_behind}
-use Rattle.chord_live_ring.specs.Closings.{AreInOrder}
+use Rattle.std.proofs.Common.{List, length, ◌+◌, ap, ◌∙◌}
+use Rattle.chord_live_ring.proofs.Gathering.{callers_without, one_node_more}
 use Rattle.chord_table.specs.Seen.{Sight}
-use Rattle.chord_table.specs.Views.{Assembled, NodeSight, callers_among}
+use Rattle.chord_table.specs.Views.{Assembled, callers_among, nodes_among}
 use Rattle.chord_live_ring.proofs.closing.Gathering.take_node.Goals as goal
 
 pub invariant_of-self : goal.invariant_of-self
-invariant_of-self g c = record {
-  ordered = λ t.
-      let next = c.next_count-is_in_order.ensures t in
-      let taken = ap (λ (a : Assembled). a.taken) c.take_node.ensures in
-      let same = ap (λ (s : NodeSight). s.node.number) c.into_seat.ensures ∙ sym c.number-number.ensures ∙ next.1 in
-      subst (λ (taken : List Sight). AreInOrder c.next_count-is_in_order.result.1 c.args.self.now.callers taken) (sym taken)
-      (subst (λ count. AreInOrder count c.args.self.now.callers (with_node_behind c.into_seat.result.crashed c.args.self.now.seats.taken c.into_seat.result.node c.into_seat.result.messages)) (sym next.2)
-      (node_next c.into_seat.result.crashed c.args.self.now.nodes c.args.self.now.callers c.args.self.now.seats.taken c.into_seat.result.node c.into_seat.result.messages (c.args.self.now.ordered next.0) same));
-}
+invariant_of-self g c =
+    let seat = c.into_seat.result in
+    let seats = c.args.self.now.seats in
+    let taken = ap (λ (a : Assembled). a.taken) c.take_node.ensures in
+    record {
+      nodes_are = λ n is.
+          let (before, was, more) = c.one_more-self.ensures n is in
+          ap (λ (l : List Sight). length (nodes_among l)) taken
+          ∙ one_node_more seats.taken seat.node seat.crashed seat.messages
+          ∙ ap (λ k. k + 1) (c.args.self.now.nodes_are before was) ∙ more;
+      callers_are = λ n is.
+          ap (λ (l : List Sight). length (callers_among l)) taken
+          ∙ ap length (callers_without seats.taken seat.node seat.crashed seat.messages)
+          ∙ c.args.self.now.callers_are n is;
+    }
 
 pub returns-clause-callers : goal.returns-clause-callers
 returns-clause-callers g c =
+    let seat = c.into_seat.result in
     ap (λ (a : Assembled). callers_among a.taken) c.take_node.ensures
-    ∙ callers_without c.into_seat.result.crashed c.args.self.now.seats.taken c.into_seat.result.node c.into_seat.result.messages
+    ∙ callers_without c.args.self.now.seats.taken seat.node seat.crashed seat.messages

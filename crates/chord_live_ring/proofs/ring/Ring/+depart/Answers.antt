@@ -1,6 +1,6 @@
 use Rattle.std.proofs.Common.{◌+◌, Bool, sym, ap, ◌∙◌, rules}
 use Rattle.chord_live_ring.proofs.Coming.{shown_by}
-use Rattle.chord_live_ring.proofs.Departures.{at_node, back_messages, back_shows, can_go, given_err, given_ok, last_kept, last_left, last_node, last_number, leaves_empty, may_after, may_next, number_after, seated_back, seated_left, shown_after, taken_next}
+use Rattle.chord_live_ring.proofs.Departures.{at_node, back_messages, back_shows, can_go, given_err, given_ok, last_kept, last_left, last_node, leaves_empty, may_after, may_next, seated_back, seated_left, shown_after, taken_next}
 use Rattle.chord_live_ring.specs.Departures.{crashed_after, node_after}
 use Rattle.chord_live_ring.specs.Sights.{Seated}
 use Rattle.chord_live_steps.specs.Departures.{AreTaken, MayDepart, departed}
@@ -34,29 +34,11 @@ lend-give_node-requires-clause-node g t c =
     let last = last_left c.args.departure c.args.numbers.now c.take_node.new.self c.depart_from.new.numbers seat c.take_node.ensures c.in-Ok.ensures.done in
     last_node c.depart_from.new.numbers.taken (shown_after c.args.departure seat) last
 
-pub lend-give_node-requires-clause-own : goal.lend-give_node-requires-clause-own
-lend-give_node-requires-clause-own g t c =
-    let seat = c.in-Some-replace.seat in
-    let there = sym c.replace.ensures.value ∙ c.in-Some-replace.is in
-    let shows = shown_by c.seated.inside.node c.seated.inside.crashed c.seated.inside.seat seat there c.seated.invariant in
-    let own = sym (ap (λ (n : Node). n.number) shows.0) ∙ at_node c.seated.inside.node.number c.number.result c.args.at (ap (λ (s : Seated). s.node.number) c.seated.view_is) c.number.ensures c.if-number-at.false in
-    let last = last_left c.args.departure c.args.numbers.now c.take_node.new.self c.depart_from.new.numbers seat c.take_node.ensures c.in-Ok.ensures.done in
-    last_number c.depart_from.new.numbers.taken (shown_after c.args.departure seat) last c.args.at (number_after c.args.departure seat.node ∙ own)
-
 pub lend-give_node-requires-in-Err-clause-node : goal.lend-give_node-requires-in-Err-clause-node
 lend-give_node-requires-in-Err-clause-node g t c =
     let seat = c.in-Some-replace.seat in
     let last = last_kept c.args.departure c.args.numbers.now c.take_node.new.self c.depart_from.new.numbers seat c.take_node.ensures c.in-Err.ensures.kept in
     last_node c.depart_from.new.numbers.taken seat last
-
-pub lend-give_node-requires-in-Err-clause-own : goal.lend-give_node-requires-in-Err-clause-own
-lend-give_node-requires-in-Err-clause-own g t c =
-    let seat = c.in-Some-replace.seat in
-    let there = sym c.replace.ensures.value ∙ c.in-Some-replace.is in
-    let shows = shown_by c.seated.inside.node c.seated.inside.crashed c.seated.inside.seat seat there c.seated.invariant in
-    let own = sym (ap (λ (n : Node). n.number) shows.0) ∙ at_node c.seated.inside.node.number c.number.result c.args.at (ap (λ (s : Seated). s.node.number) c.seated.view_is) c.number.ensures c.if-number-at.false in
-    let last = last_kept c.args.departure c.args.numbers.now c.take_node.new.self c.depart_from.new.numbers seat c.take_node.ensures c.in-Err.ensures.kept in
-    last_number c.depart_from.new.numbers.taken seat last c.args.at own
 
 pub lend-invariant_of-seated-in-Err : goal.lend-invariant_of-seated-in-Err
 lend-invariant_of-seated-in-Err g t c =

@@ -17,8 +17,8 @@ pub invariant_of-self-2 : goal.invariant_of-self-2
 invariant_of-self-2 g c =
     let i = c.self.invariant in
     let old = c.self.inside.registrar.register in
-    let id = ap (λ (n : Node). n.links.me.id.number) c.in_ok-node.ensures.ok in
-    let register = ap (λ (a : Assembled). a.register) c.admit_node-seat.ensures.admitted ∙ ap (λ n. record old { nodes = old.nodes ++ 0 ∷ []; ids = old.ids ++ n ∷ [] }) id in
+    let register = ap (λ (a : Assembled). a.register) c.admit_node-seat.ensures.admitted
+    ∙ ap (λ (n : Node). record old { nodes = old.nodes ++ n.number ∷ []; ids = old.ids ++ n.links.me.id.number ∷ [] }) c.in_ok-node.ensures.ok in
     let none = sym (ap (λ (counts : Counts). counts.nodes) c.self.view_is ∙ c.requires.none) in
     let items = c.push_reserved.ensures.items ∙ ap (λ (l : List Id). l ++ c.args.id ∷ []) c.reserve.ensures.items in
     let now = node_registered old _ c.self.inside.nodes c.self.inside.callers 0 c.self.inside.ids.items c.self.inside.premise c.args.id i.2 none register in

@@ -23,9 +23,9 @@ invariant_of-self-2 g c =
     let old = c.self.inside.registrar.register in
     let ids = c.self.inside.ids.items in
     let next = ap (λ (p : Peer). p.number) c.me-me.ensures ∙ c.requires.own ∙ sym (ap (λ (counts : Counts). counts.nodes) c.self.view_is) in
-    let id = ap (λ (n : Node). n.links.me.id.number) c.newborn-node.ensures ∙ sym (ap (λ (p : Peer). p.id.number) c.me-me.ensures) in
     let register = ap (λ (a : Assembled). a.register) c.join_node-seat.ensures.admitted
-    ∙ ap (λ n. record old { nodes = old.nodes ++ c.me-me.result.number ∷ []; ids = old.ids ++ n ∷ [] }) id in
+    ∙ ap (λ (n : Node). record old { nodes = old.nodes ++ n.number ∷ []; ids = old.ids ++ n.links.me.id.number ∷ [] }) c.newborn-node.ensures
+    ∙ ap (λ (p : Peer). record old { nodes = old.nodes ++ p.number ∷ []; ids = old.ids ++ p.id.number ∷ [] }) (sym c.me-me.ensures) in
     let items = c.push_reserved.ensures.items ∙ ap (λ (l : List Id). l ++ c.me-me.result.id ∷ []) c.reserve.ensures.items in
     let now = node_registered old _ c.self.inside.nodes c.self.inside.callers c.me-me.result.number ids c.self.inside.premise c.me-me.result.id i.2 next register in
     (i.0, i.1, subst (λ (l : List Id). IsRegister (c.self.inside.nodes + 1) c.self.inside.callers l c.self.inside.premise c.join_node-seat.new.self.register) (sym items) now)

@@ -1,6 +1,6 @@
 use Rattle.std.proofs.Common.{◌<◌, sym, ◌∙◌, ap, subst, []}
 use Rattle.chord_table.proofs.Keeping.{seated_after, local_as}
-use Rattle.chord_table.specs.Views.{word_of, TableId, view_of}
+use Rattle.chord_table.specs.Views.{TableId, view_of}
 use Rattle.chord_table.proofs.actor_seat.ActorSeat.local.Goals as goal
 
 pub load-requires : goal.load-requires
@@ -8,13 +8,12 @@ load-requires g c =
     let i = c.self.invariant in
     let named = c.args.table.now.named in (
       i.0 ∙ sym named,
-      subst (λ (t : TableId). c.self.inside.word < t.words) (sym named) i.3,
+      subst (λ (t : TableId). c.self.inside.word < t.words) (sym named) i.2,
       local_as _ _ _ _ c.args.self.now _ (λ n. n) (i.1 ∙ ap (λ s. (view_of s, [])) c.self.view_is) c.requires.event,
     )
 
 pub invariant_of-self : goal.invariant_of-self
 invariant_of-self g c =
     let i = c.self.invariant in
-    let seated = seated_after g.J.Naming.name c.self.inside.word c.self.inside.seat.me c.load.new.seat.me c.args.self.now g.E.Event.actor c.requires.event.0 (i.1 ∙ ap (λ s. (view_of s, [])) c.self.view_is)
-    c.load.ensures.2 (i.2 ∙ ap (λ s. word_of g.J.Naming.name s.actor) c.self.view_is) c.requires.event.1 in
-    (c.load.ensures.0 ∙ i.0, seated.0, seated.1, i.3)
+    let seated = seated_after c.self.inside.seat.me c.load.new.seat.me c.args.self.now g.E.Event.actor (i.1 ∙ ap (λ s. (view_of s, [])) c.self.view_is) c.load.ensures.2 in
+    (c.load.ensures.0 ∙ i.0, seated, i.2)

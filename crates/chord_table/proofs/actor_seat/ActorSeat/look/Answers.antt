@@ -8,7 +8,7 @@ load-requires g c =
     let i = c.self.invariant in
     let named = c.args.table.now.named in (
       i.0 ∙ sym named,
-      subst (λ (t : TableId). 0 < t.words) (sym named) (some_words i.3),
+      subst (λ (t : TableId). 0 < t.words) (sym named) (some_words i.2),
       look_at _ _ _ _ _ (λ n. n) i.1,
     )
 

@@ -1,7 +1,7 @@
 use Rattle.std.proofs.Common.{◌<◌, sym, ◌∙◌, ap, subst, []}
 use Rattle.chord_table.proofs.Keeping.{in_table}
-use Rattle.chord_table.proofs.Relinking.{vacate_as, pair_as, relink_as, joined_seat, relinked_seats, seated_as}
-use Rattle.chord_table.specs.Views.{TableId, view_of, word_of}
+use Rattle.chord_table.proofs.Relinking.{vacate_as, pair_as, relink_as, joined_seat, relinked_seats}
+use Rattle.chord_table.specs.Views.{TableId, view_of}
 use Rattle.chord_table.proofs.actor_seat.ActorSeat.relink.Goals as goal
 
 pub load_new_seat-nothing-requires : goal.load_new_seat-nothing-requires
@@ -34,20 +34,15 @@ invariant_of-self g c =
     let theirs = c.replace-theirs.ensures.value in
     let is = c.self.invariant.1 ∙ ap (λ s. (view_of s, [])) c.self.view_is in
     let came = ap (λ s. s.me) theirs ∙ c.other.invariant.1 ∙ ap (λ s. (view_of s, [])) c.other.view_is in
-    let name = g.J.Naming.name in
-    let seats = relinked_seats name c.self.inside.word c.self.inside.seat.me c.replace-theirs.result.me c.join_seat.new.seat.me c.split_seat-back.new.seat.me c.split_seat-back.result.me
-    c.args.self.now c.args.other.now g.E.Event.actor is came c.join_seat.ensures.2 c.split_seat-back.ensures.2 c.split_seat-back.ensures.4
-    (c.self.invariant.2 ∙ ap (λ s. word_of name s.actor) c.self.view_is) c.requires.step in
-    (c.split_seat-back.ensures.0 ∙ c.join_seat.ensures.0 ∙ c.self.invariant.0, seats.0, seats.1, c.self.invariant.3)
+    let seats = relinked_seats c.self.inside.seat.me c.replace-theirs.result.me c.join_seat.new.seat.me c.split_seat-back.new.seat.me c.split_seat-back.result.me
+    c.args.self.now c.args.other.now g.E.Event.actor is came c.join_seat.ensures.2 c.split_seat-back.ensures.2 c.split_seat-back.ensures.4 in
+    (c.split_seat-back.ensures.0 ∙ c.join_seat.ensures.0 ∙ c.self.invariant.0, seats.0, c.self.invariant.2)
 
 pub invariant_of-other : goal.invariant_of-other
 invariant_of-other g c =
     let theirs = c.replace-theirs.ensures.value in
     let is = c.self.invariant.1 ∙ ap (λ s. (view_of s, [])) c.self.view_is in
     let came = ap (λ s. s.me) theirs ∙ c.other.invariant.1 ∙ ap (λ s. (view_of s, [])) c.other.view_is in
-    let name = g.J.Naming.name in
-    let seats = relinked_seats name c.self.inside.word c.self.inside.seat.me c.replace-theirs.result.me c.join_seat.new.seat.me c.split_seat-back.new.seat.me c.split_seat-back.result.me
-    c.args.self.now c.args.other.now g.E.Event.actor is came c.join_seat.ensures.2 c.split_seat-back.ensures.2 c.split_seat-back.ensures.4
-    (c.self.invariant.2 ∙ ap (λ s. word_of name s.actor) c.self.view_is) c.requires.step in
-    let seat = seated_as name c.other.inside.word c.split_seat-back.result.me c.args.other.now seats.2 (c.other.invariant.2 ∙ ap (λ s. word_of name s.actor) c.other.view_is) in
-    (c.split_seat-back.ensures.3 ∙ c.join_seat.ensures.0 ∙ c.self.invariant.0, seat.0, seat.1, c.other.invariant.3)
+    let seats = relinked_seats c.self.inside.seat.me c.replace-theirs.result.me c.join_seat.new.seat.me c.split_seat-back.new.seat.me c.split_seat-back.result.me
+    c.args.self.now c.args.other.now g.E.Event.actor is came c.join_seat.ensures.2 c.split_seat-back.ensures.2 c.split_seat-back.ensures.4 in
+    (c.split_seat-back.ensures.3 ∙ c.join_seat.ensures.0 ∙ c.self.invariant.0, seats.1, c.other.invariant.2)

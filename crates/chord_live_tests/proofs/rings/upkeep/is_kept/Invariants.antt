@@ -1,5 +1,0 @@
-use Rattle.chord_live_tests.proofs.rings.upkeep.is_kept.Given as goal
-
--- picks the name of the ring that was just made
-abbrev pub ghosts-two_nodes : goal.ghosts-two_nodes
-ghosts-two_nodes g a = record { name = a.parts.name }
