@@ -305,14 +305,23 @@ def has_history(requests):
     return False
 
 
-def start(room):
-    """Starts the server, and gives it with the ports of its clients and its operator."""
+def without_history(requests):
+    """The keys for whose requests there is no such order."""
+    by_key = {}
+    for request in requests:
+        by_key.setdefault(request.key, []).append(request)
+    return [key for key in by_key if not has_history(by_key[key])]
+
+
+def start(room, slots):
+    """Starts the server with this many slots, and gives it with the ports of its clients and its
+    operator."""
     plan = os.path.join(room, "plan.toml")
     with open(plan, "w") as it:
         it.write("slots = 16\ncallers = 64\nsuccessors = 4\ntries = 5\nwait = 200\n")
         for place in range(8):
             it.write(f'[[node]]\nid = "{place * 2:x}{"0" * 31}"\nstore = "tree"\n')
-    words = "serve --port 0 --redis 0 --operator 0 --stay --until-input-ends --slots 4096 --callers 64 --plan".split()
+    words = f"serve --port 0 --redis 0 --operator 0 --stay --until-input-ends --slots {slots} --callers 64 --plan".split()
     server = subprocess.Popen(
         [PROGRAM, *words, plan], stdin=subprocess.PIPE, stdout=subprocess.PIPE, text=True
     )
@@ -346,7 +355,7 @@ def main():
     seconds = numbers[0] if numbers else 30
     seed = numbers[1] if len(numbers) > 1 else 1
     with tempfile.TemporaryDirectory() as room:
-        server, port, redis_port, operator_port = start(room)
+        server, port, redis_port, operator_port = start(room, 4096)
         try:
             ports = ((Connection, port), (RedisConnection, redis_port))
             operator = Operator(operator_port, seed, "--calm" in sys.argv)
@@ -396,17 +405,16 @@ def operate(server, ports, operator, seconds, seed, plants):
     if plants:
         told = [r for r in requests if r.read is not None and r.operation == RETRIEVE and r.reply]
         told[len(told) // 2].reply = frozenset()
-    by_key = {}
-    for request in requests:
-        by_key.setdefault(request.key, []).append(request)
-    faults += [f"{key} has no history" for key in by_key if not has_history(by_key[key])]
+    faults += [f"{key} has no history" for key in without_history(requests)]
     ring = operator.ring()
     phases = [node["phase"] for node in ring["nodes"]]
     if ring["ends"]["callersspent"]:
         faults.append("a client was turned away")
-    print(f"seed {seed}: {len(requests)} requests of {CLIENTS} clients over {len(by_key)} keys")
+    keys = len({request.key for request in requests})
+    print(f"seed {seed}: {len(requests)} requests of {CLIENTS} clients over {keys} keys")
     print("operator:", ", ".join(f"{n} {what}" for what, n in sorted(operator.counts.items())))
-    print("nodes:", ", ".join(f"{phases.count(p)} {p}" for p in sorted(set(phases))))
+    told = [f"{phases.count(p)} {p}" for p in sorted(set(phases))]
+    print("nodes:", ", ".join([*told, f"{ring['nodes_gone']} gone"]))
     print(f"requests without a reply: {missing}; callers open: {ring['callers']['open']}")
     print(f"requests with one: {waits(replied)}")
     print(f"without {len(dead)} that waited for a crashed node's key: {waits(live)}")
@@ -420,4 +428,5 @@ def operate(server, ports, operator, seconds, seed, plants):
     return 1 if faults else 0
 
 
-sys.exit(main())
+if __name__ == "__main__":
+    sys.exit(main())

@@ -99,7 +99,7 @@ tells 'PONG' PING
 tells 'hello' ECHO hello
 tells 'OK' SELECT 0
 tells 'OK' CLIENT SETNAME me
-tells '17' COMMAND COUNT
+tells '32' COMMAND COUNT
 tells "ERR unknown command 'GET' " GET abc
 echo "redis-cli by command: $([ $wrong = 0 ] && echo as wanted || echo NOT as wanted)"
 seq 100000 | sed 's/.*/SADD key:& value:&/' | redis-cli -p $port --pipe > "$room/pipe"

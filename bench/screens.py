@@ -52,9 +52,10 @@ def browser():
     return page
 
 
-def phase(page, node):
-    row = page.find_element(By.CSS_SELECTOR, f"#nodes tr:nth-child({node + 1})")
-    return row.find_elements(By.TAG_NAME, "td")[2].text
+def phases(page):
+    """The phase of each node in the table."""
+    rows = [row.find_elements(By.TAG_NAME, "td") for row in cells(page)]
+    return {row[0].text: row[2].text for row in rows}
 
 
 def press(page, label):
@@ -105,10 +106,10 @@ def shoot(page, folder):
     page.save_screenshot(str(folder / "ring-still.png"))
     shoot_join(page, folder)
     press(page, "Leave: node 5")
-    wait.until(lambda page: phase(page, 5) == "gone")
+    wait.until(lambda page: "5" not in phases(page))
     press(page, "Crash: node 9")
     page.switch_to.alert.accept()
-    wait.until(lambda page: phase(page, 9) == "crashed")
+    wait.until(lambda page: phases(page)["9"] == "crashed")
     time.sleep(5)
     page.save_screenshot(str(folder / "ring-crash.png"))
 

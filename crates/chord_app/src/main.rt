@@ -7,27 +7,32 @@
 //! `chord_app_options` says what a command line has, and [`Finish`] how the program ends.
 #![tactic(auto)]
 
+ghost use Rattle.std.specs.Prelude.{◌≡◌};
+ghost use Rattle.chord_app_plan.specs.Plan.{settings_with};
+
+mod kind_store;
+
+use crate::kind_store::KindStore;
 use chord_app_journal::{OpenedJournal, SyncRule, open_journal};
 use chord_app_options::{
-    RingSource, commands, plan_path_of, print_fault, serve_line_of, start_ask, start_load,
-    start_ring, stores_of,
+    RingSource, ServeLine, commands, plan_path_of, print_fault, serve_line_of, start_ask,
+    start_load, start_ring, stores_of,
 };
 use chord_app_plan::{Plan, PlanFault, Settings, StoreKind, read_plan};
-use chord_app_serve::{ServerStores, open_files, run, serve, stay};
+use chord_app_serve::{MadeStore, open_files, run, serve, stay};
 use chord_app_sockets::{
     ClientLimits, Doors, Host, JournalSetup, OperatorPort, ProcessFiles, ServerSetup, listen,
 };
 use chord_app_text::Finish;
 use chord_app_world::{empty_ones, world};
-use chord_store::{CappedStore, EntryStore, ListStore, NotedStore};
-use chord_tree_store::TreeStore;
 use clap::ArgMatches;
 use log::{Level, Logged};
+use std::alloc::{AllocError, Global};
 use std::hash::RandomState;
 use std::io::{self, IsTerminal, Stdin};
 use std::net::{Net, TcpListener, TcpStream};
 use std::process::ExitCode;
-use std::sync::{Arc, OnceLock, Wait};
+use std::sync::Wait;
 use std::thread::Threads;
 use std::time::Clock;
 use std::{env, fs};
@@ -36,6 +41,16 @@ use std::{env, fs};
 /// operators, and two for each event loop.
 const OTHER_FILES: u64 = 128;
 
+/// The kind of store that a letter names.
+fn kind_of(letter: u8) -> StoreKind {
+    match letter {
+        b't' => StoreKind::Tree,
+        b'n' => StoreKind::Noted,
+        b'c' => StoreKind::Capped(1),
+        _ => StoreKind::List,
+    }
+}
+
 /// Does the command `world`.
 fn start_world(rt: &HostRuntime, found: &ArgMatches) -> Result<Finish, Finish> {
     let alloc = rt.alloc();
@@ -43,18 +58,9 @@ fn start_world(rt: &HostRuntime, found: &ArgMatches) -> Result<Finish, Finish> {
         Ok(word) => word,
         Err(fault) => return print_fault(rt, fault),
     };
-    let mut stores: Vec<Box<dyn EntryStore + Send>> = Vec::new(alloc);
+    let mut stores = Vec::new(alloc);
     for letter in word.bytes() {
-        let store: Box<dyn EntryStore + Send> = match letter {
-            b't' => Box::new(alloc, TreeStore::new(alloc))?,
-            b'n' => {
-                let note = Arc::new(alloc, OnceLock::new())?;
-                Box::new(alloc, NotedStore::new(alloc, note))?
-            }
-            b'c' => Box::new(alloc, CappedStore::new(alloc, 1))?,
-            _ => Box::new(alloc, ListStore::new(alloc))?,
-        };
-        stores.push(store)?;
+        stores.push(KindStore::make(alloc, kind_of(letter)))?;
     }
     let stores = empty_ones(alloc, stores)?;
     Ok(world(alloc, stores, &mut rt.stdin(), rt.stdout()))
@@ -191,61 +197,13 @@ fn port_of(door: &Option<OperatorDoor>) -> Option<OperatorPort<'_>> {
     }
 }
 
-/// How many stores a command wants: one for each node of the plan, and, where an operator may make
-/// nodes join, a spare one for each slot that is left.
-fn store_count(plan: &Plan, settings: Settings, options: Option<&ServeOptions<'_>>) -> usize {
-    let nodes = plan.nodes.len();
-    match options {
-        Some(options) if options.operator.is_some() => settings.slots.max(nodes),
-        _ => nodes,
+/// A store for each node of a plan.
+fn stores_for(alloc: Global, plan: &Plan) -> Result<Vec<KindStore>, AllocError> {
+    let mut stores = Vec::new(alloc);
+    for node in plan.nodes.iter() {
+        stores.push(KindStore::make(alloc, node.store))?;
     }
-}
-
-/// The kind of the store with this number: that of the node, or of spare ones behind the nodes.
-fn store_kind(plan: &Plan, number: usize) -> StoreKind {
-    match plan.nodes.get(number) {
-        Some(node) => node.store,
-        None => plan.spare,
-    }
-}
-
-/// Does the command `run`, or `serve` if there are options for it. All stores are made here, so
-/// that what is proved of them does not rest on a function that hands them out.
-fn start_with_stores<T: Host>(
-    rt: &HostRuntime,
-    threads: &T,
-    plan: &Plan,
-    settings: Settings,
-    options: Option<&ServeOptions<'_>>,
-) -> Result<Finish, Finish> {
-    let alloc = rt.alloc();
-    let mut stores: Vec<Box<dyn EntryStore + Send>> = Vec::new(alloc);
-    for number in 0..store_count(plan, settings, options) {
-        let store: Box<dyn EntryStore + Send> = match store_kind(plan, number) {
-            StoreKind::Tree => Box::new(alloc, TreeStore::new(alloc))?,
-            StoreKind::List => Box::new(alloc, ListStore::new(alloc))?,
-            StoreKind::Noted => {
-                let note = Arc::new(alloc, OnceLock::new())?;
-                Box::new(alloc, NotedStore::new(alloc, note))?
-            }
-            StoreKind::Capped(limit) => Box::new(alloc, CappedStore::new(alloc, limit))?,
-        };
-        stores.push(store)?;
-    }
-    match options {
-        Some(options) => serve_over(rt, threads, plan, settings, options, stores),
-        None => Ok(run(threads, alloc, plan, stores, rt.stdout())),
-    }
-}
-
-/// The stores of this many nodes, and those behind them as spare ones.
-fn split<S: EntryStore>(stores: Vec<S>, nodes: usize) -> Result<ServerStores<S>, Finish> {
-    let mut nodes_first = stores;
-    let spares = nodes_first.split_off(nodes.min(nodes_first.len()))?;
-    Ok(ServerStores {
-        nodes: nodes_first,
-        spares,
-    })
+    Ok(stores)
 }
 
 /// The input whose end ends a server that stays, if one does: a terminal's. Any other may be closed
@@ -258,22 +216,21 @@ fn ending_input(rt: &HostRuntime, ends_with_input: bool) -> Option<Stdin> {
     None
 }
 
-/// Serves clients over these stores, those of the plan's nodes first.
+/// Serves clients with a ring of the plan's nodes.
 fn serve_over<'a, T: Host>(
     rt: &HostRuntime,
     threads: &T,
     plan: &'a Plan,
     settings: Settings,
     options: &'a ServeOptions<'_>,
-    stores: Vec<Box<dyn EntryStore + Send>>,
 ) -> Result<Finish, Finish> {
     let Some(doors) = options.doors() else {
-        drop(stores);
         return Err(Finish::BadCommandLine);
     };
-    let stores = split(stores, plan.nodes.len())?;
+    let alloc = rt.alloc();
+    let stores = stores_for(alloc, plan)?;
     let setup = ServerSetup {
-        alloc: rt.alloc(),
+        alloc,
         plan,
         settings,
         doors,
@@ -282,11 +239,7 @@ fn serve_over<'a, T: Host>(
         notes: &options.notes,
     };
     match options.connections {
-        Some(count) => {
-            let ServerStores { nodes, spares } = stores;
-            drop(spares);
-            serve(threads, &setup, nodes, count, rt.stdout())?
-        }
+        Some(count) => serve(threads, &setup, stores, count, rt.stdout())?,
         None => stay(
             threads,
             &setup,
@@ -318,6 +271,27 @@ fn warn_of_files(rt: &HostRuntime, callers: usize) -> Result<(), Finish> {
     }
 }
 
+/// The settings of a server's ring: the plan's, with the numbers of nodes and callers that the line
+/// names.
+fn settings_of(plan: &Plan, line: &ServeLine<'_>) -> Settings
+    ensures { result ≡ settings_with plan.now.settings line.now.slots line.now.callers }
+{
+    plan.settings_with(line.slots, line.callers)
+}
+
+/// What the line allows clients of a server that stays.
+fn limits_of(line: &ServeLine<'_>) -> ClientLimits
+    ensures idle { result.idle ≡ line.now.idle }
+    ensures keep { result.keep ≡ line.now.keep }
+    ensures buffers { result.buffers ≡ line.now.buffers }
+{
+    ClientLimits {
+        idle: line.idle,
+        keep: line.keep,
+        buffers: line.buffers,
+    }
+}
+
 /// Does the command `serve`.
 fn start_serve<T: Host>(
     rt: &HostRuntime,
@@ -332,7 +306,7 @@ fn start_serve<T: Host>(
         RingSource::Plan(path) => plan_of(rt, path)?,
         RingSource::Even(nodes) => Plan::even(rt.alloc(), nodes)?,
     };
-    let settings = plan.settings_with(line.slots, line.callers);
+    let settings = settings_of(&plan, &line);
     if settings.slots < plan.nodes.len() {
         let (slots, nodes) = (settings.slots, plan.nodes.len());
         eprintln!(rt; "fault plan\n--slots {slots} is below the plan's {nodes} nodes")?;
@@ -350,27 +324,30 @@ fn start_serve<T: Host>(
         redis,
         connections: line.connections,
         ends_with_input: line.ends_with_input,
-        limits: ClientLimits {
-            idle: line.idle,
-            keep: line.keep,
-            buffers: line.buffers,
-        },
+        limits: limits_of(&line),
         operator,
         journal,
         sync: line.sync,
         notes: Logged::new(rt, level, rt),
     };
     warn_of_files(rt, settings.callers)?;
-    let ended = start_with_stores(rt, threads, &plan, settings, Some(&options));
+    let ended = serve_over(rt, threads, &plan, settings, &options);
     drop(options);
     drop(plan);
     ended
 }
 
+/// Runs a ring of the plan's nodes.
+fn run_over<T: Host>(rt: &HostRuntime, threads: &T, plan: &Plan) -> Result<Finish, Finish> {
+    let alloc = rt.alloc();
+    let stores = stores_for(alloc, plan)?;
+    Ok(run(threads, alloc, plan, stores, rt.stdout()))
+}
+
 /// Does the command `run`.
 fn start_run<T: Host>(rt: &HostRuntime, threads: &T, found: &ArgMatches) -> Result<Finish, Finish> {
     let plan = plan_of(rt, plan_path_of(found))?;
-    start_with_stores(rt, threads, &plan, plan.settings, None)
+    run_over(rt, threads, &plan)
 }
 
 /// How a command ended, done or with a fault.

@@ -7,3 +7,4 @@ pub mod Reports
 pub mod Requests
 pub mod Histogram
 pub mod Shares
+pub mod Tokens

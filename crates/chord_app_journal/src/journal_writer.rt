@@ -2,26 +2,24 @@
 //!
 //! Its marks count the bytes of the source: up to `written` the commands are in the file, up to
 //! `synced` on the disk. Both only rise, each under the lock of what raises it. One who took an
-//! answer reads the source's mark behind it, so the command of each change that the answer may show
+//! answer reads the source's mark after it, so the command of each change that the answer may show
 //! is within it: the change was appended, and the source's mark raised, under the lock of the node
 //! that executed it, before the answer was sent. Whoever finds a mark here at or above that one
 //! knows that those commands are written. All orders are `SeqCst`.
 
-use crate::bell::Bell;
-use crate::source::{Source, Wakes};
+use crate::source::Source;
 use crate::writing::Writing;
 use chord_journal_file::{Device, JournalFile, SyncFault, Syncing, WriteFault};
 use std::alloc::Global;
 use std::io;
-use std::sync::atomic::{AtomicBool, AtomicU64, Ordering};
+use std::sync::atomic::{AtomicU64, Ordering};
 use std::sync::{Mutex, Wait};
-use std::time::{Clock, Duration};
+use std::time::Duration;
 
 /// How many milliseconds lie between two tries of a write that failed.
 const RETRY_MILLISECONDS: u64 = 100;
 
-/// How many milliseconds lie between two syncs of `SyncRule::Second`, and how long a thread with
-/// nothing to do sleeps at most.
+/// How many milliseconds lie between two syncs of `SyncRule::Second`.
 const SYNC_MILLISECONDS: u64 = 1_000;
 
 /// How many bytes may wait to be written before no further change is taken.
@@ -71,15 +69,13 @@ impl Trouble {
 pub struct JournalWriter<D: Device> {
     rule: SyncRule,
     writing: Mutex<Writing<D>>,
-    /// Taken behind `writing`, or alone.
+    /// Taken after `writing`, or alone.
     syncing: Mutex<Syncing<D>>,
     written: AtomicU64,
     synced: AtomicU64,
     trouble: AtomicU64,
     /// How many writes and syncs failed.
     failures: AtomicU64,
-    bell: Bell,
-    is_over: AtomicBool,
 }
 
 impl<D: Device + Drop> JournalWriter<D> {
@@ -98,8 +94,6 @@ impl<D: Device + Drop> JournalWriter<D> {
             synced: AtomicU64::new(0),
             trouble: AtomicU64::new(Trouble::None.code()),
             failures: AtomicU64::new(0),
-            bell: Bell::new(),
-            is_over: AtomicBool::new(false),
         })
     }
 }
@@ -195,62 +189,33 @@ impl<D: Device> JournalWriter<D> {
         }
     }
 
-    /// Has the commands up to this mark written, for one who waits: at once, or by the thread that
-    /// runs the writer. Says up to where changes may be shown then.
+    /// Has the commands up to this mark written, for one who waits, unless a sync is due before they
+    /// may be shown. Says up to where changes may be shown then; where that is less, the next round
+    /// writes them.
     pub fn settle<R: Wait, S: Source>(&self, rt: &R, source: &S, mark: u64) -> u64 {
-        let shown = self.shown();
-        if shown >= mark {
-            return shown;
-        }
-        if self.rule == SyncRule::Always {
-            self.bell.ring(rt);
-        } else if self.trouble() == Trouble::None && self.write(rt, source).is_err() {
-            self.bell.ring(rt);
+        let is_due = self.shown() < mark && self.trouble() == Trouble::None;
+        if is_due && self.rule != SyncRule::Always {
+            let _ = self.write(rt, source).is_ok();
         }
         self.shown()
     }
 
-    /// How long the thread that runs the writer sleeps.
-    fn pause(&self) -> Duration {
+    /// How long the thread that writes sleeps at most before its next round.
+    pub fn pause(&self) -> Duration {
         Duration::from_millis(match self.trouble() {
             Trouble::Refuses => RETRY_MILLISECONDS,
             Trouble::None | Trouble::Lost => SYNC_MILLISECONDS,
         })
     }
 
-    /// Writes and syncs what is to be, and has those look who wait.
-    fn round<R: Wait, S: Source, W: Wakes>(&self, rt: &R, source: &S, wakes: &W) {
-        let before = self.shown();
-        let trouble = self.trouble();
-        if self.rule == SyncRule::Always || trouble == Trouble::Refuses {
-            let _ = self.write(rt, source).is_ok();
-        }
-        if self.rule != SyncRule::Never {
+    /// Writes and syncs what is due. Says whether those who wait for that are to look.
+    pub fn round<R: Wait, S: Source>(&self, rt: &R, source: &S) -> bool {
+        let (shown, trouble) = (self.shown(), self.trouble());
+        let syncs = self.rule != SyncRule::Never;
+        if (syncs || trouble == Trouble::Refuses) && self.write(rt, source).is_ok() && syncs {
             let _ = self.sync(rt).is_ok();
         }
-        if self.shown() != before || self.trouble() != trouble {
-            wakes.wake();
-        }
-    }
-
-    /// Runs the writer, until it is ended or its file is lost.
-    pub fn run<R: Wait + Clock, S: Source, W: Wakes>(&self, rt: &R, source: &S, wakes: &W) {
-        for _ in rt.forever() {
-            self.bell.wait(rt, self.pause());
-            if self.is_over.load(Ordering::SeqCst) {
-                return;
-            }
-            if self.trouble() == Trouble::Lost {
-                return;
-            }
-            self.round(rt, source, wakes);
-        }
-    }
-
-    /// Has the thread that runs the writer return.
-    pub fn end<R: Wait>(&self, rt: &R) {
-        self.is_over.store(true, Ordering::SeqCst);
-        self.bell.ring(rt);
+        self.shown() != shown || self.trouble() != trouble
     }
 
     /// Writes and syncs what is left. Says whether all of it is on the disk.

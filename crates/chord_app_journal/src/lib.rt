@@ -2,11 +2,11 @@
 //!
 //! [`open_journal`] opens a file for one server alone, and cuts off what is no whole command. A
 //! [`JournalWriter`] takes the commands from a [`Source`], writes them, and says up to where they
-//! are written and where a sync has brought them to the disk; a thread runs it. [`load`] has the
+//! are written and where a sync has brought them to the disk; a thread of the server has it do so
+//! in rounds. [`load`] has the
 //! changes of a file done by several [`Doer`]s, those of a key always by the same one.
 #![tactic(auto)]
 
-mod bell;
 mod journal_writer;
 mod loading;
 mod opened;
@@ -20,4 +20,4 @@ pub use loading::{Doer, LoadFault, Loaded, Progress, load};
 pub use opened::OpenedJournal;
 pub use opening::{OpenFault, open_journal};
 pub use place::Place;
-pub use source::{Source, Wakes};
+pub use source::Source;

@@ -1,4 +1,4 @@
-//! Where commands come from, and who waits until they are written.
+//! Where commands come from.
 
 use chord_journal::JournalPiece;
 use std::sync::Wait;
@@ -11,10 +11,4 @@ pub trait Source {
     /// How many bytes were added in all. It never falls, and the command of a change is within it
     /// before the change is answered.
     fn mark(&self) -> u64;
-}
-
-/// Who waits until commands are written.
-pub trait Wakes {
-    /// Has them look.
-    fn wake(&self);
 }

@@ -2,12 +2,12 @@
 
 use crate::checks::check;
 use crate::device::{FailingDevice, Next};
-use chord_app_journal::{JournalWriter, Source, SyncRule, Trouble, Wakes};
+use chord_app_journal::{JournalWriter, Source, SyncRule, Trouble};
 use chord_journal::{JournalBuffer, JournalPiece};
 use chord_journal_file::JournalFile;
 use chord_map::{Reply, Request};
 use std::alloc::{AllocError, Global};
-use std::sync::atomic::{AtomicU64, Ordering};
+use std::sync::atomic::{AtomicBool, AtomicU64, Ordering};
 use std::sync::{Mutex, Wait};
 use std::thread::Threads;
 use std::time::{Clock, Duration};
@@ -21,8 +21,9 @@ const PATIENCE: u64 = 20_000;
 struct Changes {
     buffer: Mutex<JournalBuffer>,
     mark: AtomicU64,
-    /// How often those who wait were woken.
-    wakes: AtomicU64,
+    /// How often a round said that those who wait are to look.
+    looks: AtomicU64,
+    is_over: AtomicBool,
 }
 
 impl Changes {
@@ -30,11 +31,12 @@ impl Changes {
         Changes {
             buffer: Mutex::new(JournalBuffer::new(alloc)),
             mark: AtomicU64::new(0),
-            wakes: AtomicU64::new(0),
+            looks: AtomicU64::new(0),
+            is_over: AtomicBool::new(false),
         }
     }
 
-    /// Makes a change, and gives the mark behind it.
+    /// Makes a change, and gives the mark after it.
     fn make<R: Wait>(&self, rt: &R, alloc: Global, value: &[u8]) -> Result<u64, AllocError> {
         let request = Request::insert(alloc, b"k", value)?;
         let mut buffer = self.buffer.lock(rt);
@@ -55,12 +57,6 @@ impl Source for Changes {
 
     fn mark(&self) -> u64 {
         self.mark.load(Ordering::SeqCst)
-    }
-}
-
-impl Wakes for Changes {
-    fn wake(&self) {
-        self.wakes.fetch_add(1, Ordering::SeqCst);
     }
 }
 
@@ -132,7 +128,20 @@ impl Parts {
     }
 }
 
-/// Runs the writer beside what is done, and ends it.
+/// Has rounds written until the test is over, or the file is lost.
+fn write_rounds<R: Wait + Clock>(rt: &R, parts: &Parts) {
+    for _ in rt.forever() {
+        if parts.changes.is_over.load(Ordering::SeqCst) || parts.writer.trouble() == Trouble::Lost {
+            return;
+        }
+        if parts.writer.round(rt, &parts.changes) {
+            parts.changes.looks.fetch_add(1, Ordering::SeqCst);
+        }
+        thread::sleep(rt, Duration::from_millis(1));
+    }
+}
+
+/// Writes rounds beside what is done, and ends them.
 fn beside<R: Threads + Wait + Clock + Sync, F: FnOnce() -> io::Result<bool>>(
     rt: &R,
     parts: &Parts,
@@ -141,9 +150,9 @@ fn beside<R: Threads + Wait + Clock + Sync, F: FnOnce() -> io::Result<bool>>(
     requires { F.IsAlwaysCallable work }
 {
     thread::scope(thread::scope_env(), rt, |scope| {
-        let started = scope.spawn(move || parts.writer.run(rt, &parts.changes, &parts.changes));
+        let started = scope.spawn(move || write_rounds(rt, parts));
         let worked = work();
-        parts.writer.end(rt);
+        parts.changes.is_over.store(true, Ordering::SeqCst);
         if started.is_err() {
             return Ok(false);
         }
@@ -217,10 +226,10 @@ fn fail_to_sync<R: Threads + Wait + Clock + AllocGlobal + Sync>(rt: &R) -> io::R
         Ok(shown <= first && is_synced && is_lost)
     });
     let seen = parts.seen();
-    let woken = parts.changes.wakes.load(Ordering::SeqCst);
+    let looks = parts.changes.looks.load(Ordering::SeqCst);
     let concluded = parts.writer.conclude(rt, &parts.changes);
     drop(parts);
-    Ok(all? && seen.shown == first && seen.written == 56 && woken >= 2 && !concluded)
+    Ok(all? && seen.shown == first && seen.written == 56 && looks >= 2 && !concluded)
 }
 
 #[test]

@@ -1,9 +1,10 @@
 //! Who takes part in a test: clients, their connections, and event loops.
+ghost use Rattle.std.specs.Prelude.{◌≡◌};
 
 use crate::askers::LateAsker;
 use chord_app_loop::{Budget, Guest, Loops, Met, Owner, Rules, Socket};
 use chord_app_sockets::{Clients, Ended};
-use chord_resp_serve::{CommandProtocol, Informs, ServerInfo};
+use chord_resp_serve::{CommandProtocol, Informs, Moment, ServerInfo};
 use chord_serve::{Link, Marks, ReadSize, Served};
 use std::alloc::{AllocError, Global};
 use std::net::{Net, TcpListener, TcpStream};
@@ -22,6 +23,13 @@ impl Informs for Silent {
 
     fn info(&self, alloc: Global) -> Result<Vec<u8>, AllocError> {
         Ok(Vec::new(alloc))
+    }
+
+    fn time(&self) -> Moment {
+        Moment {
+            seconds: 0,
+            micros: 0,
+        }
     }
 }
 
@@ -75,6 +83,8 @@ impl<'t, R: Wait> House<'t, R> {
 }
 
 impl<R> Marks for House<'_, R> {
+    ghost tells = { λ _ mark. mark ≡ 0 };
+
     fn mark(&self) -> u64 {
         0
     }

@@ -4,6 +4,7 @@
 //! what a plain table of pairs says.
 //!
 //! The variable `SEEDS` of the environment says how many seeds a run goes through.
+ghost use Rattle.std.specs.Prelude.{◌≡◌};
 
 mod asker;
 mod commands;
@@ -46,6 +47,8 @@ struct Changes {
 }
 
 impl Marks for Changes {
+    ghost tells = { λ changes mark. mark ≡ changes.made };
+
     fn mark(&self) -> u64 {
         self.made
     }

@@ -77,4 +77,4 @@ ring_no_float r =
     let sessions = sessions_no_float r.sessions in
     let answers = protocols_no_float r.answers in
     record_no_float (ring_members r)
-    (refl, (refl, (refl, (callers, (refl, (ends, (sessions, (answers, (refl, (nodes, tt))))))))))
+    (refl, (refl, (refl, (refl, (callers, (refl, (ends, (sessions, (answers, (refl, (nodes, tt)))))))))))

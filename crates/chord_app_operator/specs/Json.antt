@@ -22,6 +22,7 @@ use Rattle.chord_app_operator.specs.declared.sight.traffic.SessionCounts.{Sessio
 use Rattle.chord_app_operator.specs.declared.operator.holder.Holder.{Holder}
 use Rattle.chord_app_operator.specs.declared.operator.holder.Holder.TheVariants.{Node, Handover, Moved}
 use Rattle.chord_app_operator.specs.declared.request.refusal.Refusal.{Refusal}
+use Rattle.chord_app_operator.specs.Rows.{gone_of}
 use Rattle.chord_app_operator.specs.Words.{store_word, refusal_name}
 use Rattle.chord_sight.specs.Phases.{phase_word}
 
@@ -171,7 +172,8 @@ node_data n =
 -- a ring: what it has beside its nodes, and its nodes
 abbrev pub server_members : RingSight → List (List ℕ × Data)
 server_members r =
-    (codes "successors", count_data r.successors) ∷ (codes "slots", count_data r.slots) ∷ (codes "premise", boolean r.premise)
+    (codes "successors", count_data r.successors) ∷ (codes "slots", count_data r.slots) ∷ (codes "nodes_gone", count_data (gone_of r))
+    ∷ (codes "premise", boolean r.premise)
     ∷ (codes "callers", callers_data r.callers) ∷ (codes "connections", count_data r.connections) ∷ (codes "ends", ends_data r.ends) ∷ (codes "sessions", sessions_data r.sessions)
     ∷ (codes "answers", protocols_data r.answers) ∷ (codes "uptime_ms", count_data r.uptime_ms) ∷ []
 

@@ -10,6 +10,7 @@ pub mod Queries
 pub mod Questions
 pub mod Replies
 pub mod Requests
+pub mod Rows
 pub mod Services
 pub mod Shares
 pub mod Sites

@@ -11,6 +11,7 @@ use Rattle.chord_sight.specs.declared.node.NodeSight.{NodeSight}
 use Rattle.chord_sight.specs.declared.parts.OutboxSight.{OutboxSight}
 use Rattle.chord_app_operator.specs.declared.sight.ring.RingSight.{RingSight}
 use Rattle.chord_app_operator.specs.Json.{id_hex}
+use Rattle.chord_app_operator.specs.Rows.{gone_of}
 use Rattle.chord_app_operator.specs.Shares.{share_of}
 use Rattle.chord_sight.specs.Phases.{phase_word}
 use Rattle.chord_app_operator.specs.Words.{refusal_name}
@@ -65,6 +66,7 @@ server_line r = codes "up " ++ flat_map with_words (
     (r.uptime_ms / 1000, codes " s, ") ∷
     (length r.nodes.items, codes " of ") ∷
     (r.slots, codes " slots used, ") ∷
+    (gone_of r, codes " gone, ") ∷
     (r.successors, codes " successors, ") ∷
     (r.connections, codes " connections, ") ∷
     (r.callers.open, codes " of ") ∷

@@ -19,6 +19,7 @@ use Rattle.chord_app_operator.specs.declared.show.ring_count.RingCount.TheVarian
 use Rattle.chord_app_operator.specs.declared.show.metric.Metric.{Metric}
 use Rattle.chord_app_operator.specs.declared.show.metric.Series.{Series}
 use Rattle.chord_app_operator.specs.declared.show.metric.Series.TheVariants.{Node, Ring, Times}
+use Rattle.chord_app_operator.specs.Rows.{gone_of, is_present}
 
 -- ---- the numbers
 
@@ -55,16 +56,18 @@ answer_count answer.NoAnswer a = a.no_answer
 answer_count answer.Memory a = a.memory
 answer_count answer.Refused a = a.refused
 
--- how often nodes passed requests on, all together; a sum that does not fit is 2^64 - 1
+-- how often nodes passed requests on, all together, with those of nodes that are not here any more;
+-- a sum that does not fit is 2^64 - 1
 abbrev pub with_forwards : ℕ → StoredNode → ℕ
 with_forwards all n = min (all + n.sight.counts.asks.forwarded) (2 ^ 64 - 1)
 
-abbrev pub forwards_of : List StoredNode → ℕ
-forwards_of nodes = fold with_forwards 0 nodes
+abbrev pub forwards_of : ℕ → List StoredNode → ℕ
+forwards_of past nodes = fold with_forwards past nodes
 
 -- of a ring and its server
 abbrev pub ring_count : RingCount → RingSight → ℕ
 ring_count (ring.Nodes phase) r = count_by (is_in phase) r.nodes.items
+ring_count ring.Gone r = gone_of r
 ring_count ring.Premise r = if r.premise then 1 else 0
 ring_count ring.Connections r = r.connections
 ring_count ring.CallersOpen r = r.callers.open
@@ -85,7 +88,7 @@ ring_count ring.Dropped r = r.sessions.dropped
 ring_count ring.Refused r = r.sessions.refused
 ring_count (ring.Frames count) r = answer_count count r.answers.frames
 ring_count (ring.Redis count) r = answer_count count r.answers.redis
-ring_count ring.Forwards r = forwards_of r.nodes.items
+ring_count ring.Forwards r = forwards_of r.past_forwards r.nodes.items
 ring_count ring.BytesRead r = r.bytes.read
 ring_count ring.BytesWritten r = r.bytes.written
 ring_count ring.One r = 1
@@ -101,7 +104,8 @@ scale count = []
 
 -- ---- the table
 
--- lines with the same labels: one of each node, one of the ring, or those of how long requests took
+-- lines with the same labels: one of each node that is not gone, one of the ring, or those of how
+-- long requests took
 pub data Lines : Type 0 where
   OfNodes : List ℕ → NodeCount → Lines
   OfRing : List ℕ → RingCount → Lines
@@ -128,9 +132,9 @@ metrics =
     gauge (codes "chord_nodes") (codes "Nodes by phase.") (
     OfRing (codes "{phase=\"staying\"}") (ring.Nodes Staying) ∷
     OfRing (codes "{phase=\"leaving\"}") (ring.Nodes Leaving) ∷
-    OfRing (codes "{phase=\"gone\"}") (ring.Nodes Gone) ∷
     OfRing (codes "{phase=\"crashed\"}") (ring.Nodes Crashed) ∷
     OfRing (codes "{phase=\"rescuing\"}") (ring.Nodes Rescuing) ∷ [])
+    ∷ counter (codes "chord_nodes_gone_total") (codes "Nodes that are gone.") (OfRing (codes "") ring.Gone ∷ [])
     ∷ gauge (codes "chord_ring_premise") (codes "1 as long as the ring allowed each crash.") (OfRing (codes "") ring.Premise ∷ [])
     ∷ gauge (codes "chord_pairs") (codes "Pairs that a node holds.") (OfNodes (codes "") node.Pairs ∷ [])
     ∷ gauge (codes "chord_segments") (codes "Segments that a node holds.") (OfNodes (codes "") node.Segments ∷ [])
@@ -192,10 +196,14 @@ metrics =
 abbrev pub value_line : ℕ → List ℕ → List ℕ
 value_line n scale = codes " " ++ (decimal n ++ (scale ++ codes "\n"))
 
-abbrev pub node_line : (name labels : List ℕ) → NodeCount → StoredNode → List ℕ
-node_line name labels count n =
+abbrev pub line_of_node : (name labels : List ℕ) → NodeCount → StoredNode → List ℕ
+line_of_node name labels count n =
     name ++ (codes "{node=\"" ++ (decimal n.sight.number
     ++ (codes "\"" ++ (labels ++ (codes "}" ++ value_line (node_count count n.sight) [])))))
+
+-- a node that is gone has no line
+abbrev pub node_line : (name labels : List ℕ) → NodeCount → StoredNode → List ℕ
+node_line name labels count n = if is_present n then line_of_node name labels count n else []
 
 abbrev pub ring_line : (name labels : List ℕ) → ℕ → List ℕ → List ℕ
 ring_line name labels value scale = name ++ (labels ++ value_line value scale)

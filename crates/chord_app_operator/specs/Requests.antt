@@ -17,6 +17,7 @@ use Rattle.chord_app_operator.specs.Outcomes.{and_then}
 use Rattle.chord_app_operator.specs.Sites.{is_for_own_host, is_from_own_origin}
 use Rattle.chord_app_operator.specs.Paths.{verb_of, resource_of}
 use Rattle.chord_app_operator.specs.Queries.{pairs_request}
+use Rattle.chord_app_operator.specs.Rows.{rows_asked}
 use Rattle.chord_app_operator.specs.Bodies.{body_object, join_of, force_of}
 
 -- a body has at most this many bytes
@@ -31,7 +32,7 @@ make call (Ok x) = Ok (call x)
 -- the call at a resource, with this query and this body
 abbrev pub call_at : Resource → Option (List ℕ) → List ℕ → Result OperatorCall Refusal
 call_at Page query body = Ok Call.Page
-call_at Ring query body = Ok Call.Ring
+call_at Ring query body = make Call.Ring (rows_asked query)
 call_at Metrics query body = Ok Call.Metrics
 call_at Health query body = Ok Call.Health
 call_at Ready query body = Ok Call.Ready

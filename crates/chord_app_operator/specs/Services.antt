@@ -21,6 +21,7 @@ use Rattle.chord_app_operator.specs.declared.operator.refusals.CrashRefusal.{Cra
 use Rattle.chord_app_operator.specs.declared.operator.refusals.RescueRefusal.{RescueRefusal}
 use Rattle.chord_app_operator.specs.Questions.{Question, Sight, Health, Join, Leave, Crash, Rescue, Hold, ReadPairs, Stop, Answer, Seen, HealthTold, Joined, BeganToLeave, HasCrashed, RescueBegan, Held, PairsRead, Stopping}
 use Rattle.chord_app_operator.specs.Requests.{UnlessMemory, format_of, requested}
+use Rattle.chord_app_operator.specs.Rows.{ToldRows}
 use Rattle.chord_app_operator.specs.Json.{holder_data}
 use Rattle.chord_app_operator.specs.Health.{unhealthy, unready}
 use Rattle.chord_app_operator.specs.Metrics.{metrics_text}
@@ -64,8 +65,9 @@ module _ {O : Type 0} (answers : O → Question → Answer → O → Type 0) whe
   -- asks nothing.
   abbrev pub IsAnswered : Format → OperatorCall → O → Response → O → Type 0
   IsAnswered format Call.Page old response new = (new ≡ old) × OrFull (IsPage response) response
-  IsAnswered format Call.Ring old response new =
-      (told : Result RingSight AllocError) × answers old Sight (Seen told) new × OrFull (ShowsRing format told response) response
+  IsAnswered format (Call.Ring rows) old response new =
+      (told : Result RingSight AllocError) × answers old Sight (Seen told) new
+      × (kept : Result RingSight AllocError) × ToldRows rows told kept × OrFull (ShowsRing format kept response) response
   IsAnswered format Call.Metrics old response new =
       (told : Result RingSight AllocError) × answers old Sight (Seen told) new × OrFull (ShowsMetrics format told response) response
   IsAnswered format Call.Health old response new =

@@ -18,8 +18,8 @@ pub use operator::{
     RescueRefusal,
 };
 pub use request::{
-    CrashRequest, Fault, Format, JoinRequest, OperatorCall, PairsRequest, Refusal, Resource, Site,
-    StoreKind, Verb,
+    CrashRequest, Fault, Format, JoinRequest, OperatorCall, PairsRequest, Refusal, Resource, Rows,
+    Site, StoreKind, Verb,
 };
 pub use service::OperatorService;
 pub use show::{

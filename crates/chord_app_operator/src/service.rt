@@ -5,10 +5,11 @@ ghost use Rattle.chord_app_operator.specs.declared.request.calls.OperatorCall.Th
 ghost use Rattle.chord_app_operator.specs.declared.request.format.Format.{Format};
 ghost use Rattle.chord_app_operator.specs.Services.{OrFull, ShowsRing, ShowsMetrics, ShowsPairs, IsAnswered, IsDealtWith, IsServed};
 ghost use Rattle.chord_app_operator.specs.Replies.{IsPage};
+ghost use Rattle.chord_app_operator.specs.Rows.{ToldRows};
 
 use crate::operator::{Operator, PairsPage};
 use crate::request::{
-    CrashRequest, Format, JoinRequest, OperatorCall, PairsRequest, Refusal, Site,
+    CrashRequest, Format, JoinRequest, OperatorCall, PairsRequest, Refusal, Rows, Site,
 };
 use crate::show::replies::{
     or_full, refuse, show_holder, show_metrics, show_node, show_page, show_pairs, show_ring,
@@ -113,13 +114,34 @@ fn show_told_pairs(
     }
 }
 
-fn ring<O: Operator>(alloc: Global, format: Format, operator: &mut O, response: &mut Response)
+// What was told of a ring, with these nodes alone.
+fn with_rows(rows: Rows, told: Result<RingSight, AllocError>) -> Result<RingSight, AllocError>
+    ensures { ToldRows rows told result }
+{
+    match told {
+        Ok(sight) => {
+            let mut kept = sight;
+            kept.keep(rows);
+            Ok(kept)
+        }
+        Err(refused) => Err(refused),
+    }
+}
+
+fn ring<O: Operator>(
+    alloc: Global,
+    format: Format,
+    operator: &mut O,
+    rows: Rows,
+    response: &mut Response,
+)
     requires { IsBlank response.old }
-    ensures { IsAnswered O.answers format Call.Ring operator.old response.new operator.new }
+    ensures { IsAnswered O.answers format (Call.Ring rows) operator.old response.new operator.new }
 {
     let told = operator.sight(alloc);
-    let shown = show_told_ring(alloc, format, &told, response);
-    drop(told);
+    let kept = with_rows(rows, told);
+    let shown = show_told_ring(alloc, format, &kept, response);
+    drop(kept);
     or_full(shown, response);
 }
 
@@ -284,7 +306,7 @@ fn answer<O: Operator>(
 {
     match call {
         OperatorCall::Page => page(response),
-        OperatorCall::Ring => ring(alloc, format, operator, response),
+        OperatorCall::Ring(rows) => ring(alloc, format, operator, rows, response),
         OperatorCall::Metrics => metrics(alloc, format, operator, response),
         OperatorCall::Health => health(operator, response),
         OperatorCall::Ready => ready(operator, response),

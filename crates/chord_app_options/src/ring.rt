@@ -5,7 +5,7 @@ use crate::faults::{fault_of, print_fault};
 use crate::number::{NumberOption, WrongNumber, number_from, small_number};
 use crate::parts::{flag, with_argument, with_command, with_numbers};
 use crate::shared;
-use chord_app_operator::{CrashRequest, JoinRequest, StoreKind};
+use chord_app_operator::{CrashRequest, JoinRequest, Rows, StoreKind};
 use chord_app_ring::{RingCommand, RingLine, RingTask, run_dump, run_ring};
 use chord_app_text::Finish;
 use chord_ident::Id;
@@ -75,8 +75,8 @@ enum RingWrong<'a> {
     Node(&'a str),
     /// A limit stands beside a store that has none.
     Limit,
-    /// What is done once is to be done often.
-    Often,
+    /// What only the table has stands beside another command.
+    Table,
     /// The port is missing, or it is not of the kind that the command has.
     Port,
 }
@@ -98,7 +98,9 @@ impl fmt::Display for RingWrong<'_> {
                 )
             }
             RingWrong::Limit => f.write_str("'--limit <N>' is only for '--store capped'"),
-            RingWrong::Often => f.write_str("'--watch' and '--times <N>' are only for the table"),
+            RingWrong::Table => {
+                f.write_str("'--watch', '--times <N>' and '--all' are only for the table")
+            }
             RingWrong::Port => {
                 f.write_str("restore has '--port <N>', and all else has '--operator <PORT>'")
             }
@@ -180,11 +182,17 @@ pub fn ring_command<'a>(alloc: Global) -> Result<Command<'a>, AllocError> {
         "watch",
         "Shows the ring each second until the server is gone",
     );
+    let all = flag(
+        alloc,
+        "all",
+        "Shows nodes that are gone too, as long as nobody needs their slots",
+    );
     let ring = Command::new(alloc, "ring")
         .about("Shows the ring of a server to its operator, or changes it")
         .arg(OPERATOR.argument(alloc));
     let ring = with_argument(ring, PORT.argument(alloc));
     let ring = with_argument(ring, watch);
+    let ring = with_argument(ring, all);
     let ring = with_argument(ring, TIMES.argument(alloc));
     let ring = with_command(ring, join_command(alloc));
     let ring = with_command(ring, leave_command(alloc));
@@ -243,13 +251,22 @@ fn command_of<'a>(found: &ArgMatches<'a>) -> Result<RingCommand, RingWrong<'a>> 
         })),
         Some(("rescue", below)) => Ok(RingCommand::Rescue(node_of(below)?)),
         Some(("stop", _)) => Ok(RingCommand::Stop),
-        _ => Ok(RingCommand::Show),
+        _ => Ok(RingCommand::Show(rows_of(found))),
     }
 }
 
-/// Whether it is to be done more than once.
-fn is_repeated(found: &ArgMatches) -> bool {
-    found.get_flag("watch") || TIMES.word(found).is_some()
+/// Which nodes the table shows.
+fn rows_of(found: &ArgMatches) -> Rows {
+    if found.get_flag("all") {
+        Rows::All
+    } else {
+        Rows::Present
+    }
+}
+
+/// Whether the line says how the table is shown.
+fn is_for_table(found: &ArgMatches) -> bool {
+    found.get_flag("watch") || found.get_flag("all") || TIMES.word(found).is_some()
 }
 
 /// How often the ring is shown.
@@ -278,8 +295,8 @@ fn port_of<'a>(
 fn ask_of<'a>(found: &ArgMatches<'a>) -> Result<RingTask, RingWrong<'a>> {
     let port = port_of(found, OPERATOR, PORT)?;
     let command = command_of(found)?;
-    if command != RingCommand::Show && is_repeated(found) {
-        return Err(RingWrong::Often);
+    if !matches!(&command, RingCommand::Show(_)) && is_for_table(found) {
+        return Err(RingWrong::Table);
     }
     Ok(RingTask::Ask(RingLine {
         port,
@@ -294,8 +311,8 @@ fn read<'a>(found: &ArgMatches<'a>) -> Result<RingTask, RingWrong<'a>> {
         Some(("restore", _)) => RingTask::Restore(port_of(found, PORT, OPERATOR)?),
         _ => return ask_of(found),
     };
-    if is_repeated(found) {
-        return Err(RingWrong::Often);
+    if is_for_table(found) {
+        return Err(RingWrong::Table);
     }
     Ok(task)
 }

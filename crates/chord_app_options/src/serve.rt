@@ -77,7 +77,7 @@ const SLOTS: NumberOption = NumberOption {
     least: 1,
     most: 4_096,
     default: None,
-    help: "If it stays: how many nodes there may ever be, 1 to 4096, else the plan's",
+    help: "If it stays: how many nodes there may be at once, 1 to 4096, else the plan's",
 };
 
 const CALLERS: NumberOption = NumberOption {
@@ -223,7 +223,7 @@ pub struct ServeLine<'a> {
     pub keep: u64,
     /// The port at which operators are served, if the server stays and has one.
     pub operator: Option<u16>,
-    /// How many nodes there may ever be, where the command line says so in place of the plan.
+    /// How many nodes there may be at once, where the command line says so in place of the plan.
     pub slots: Option<usize>,
     /// How many callers there may be, where this is not left to a plan.
     pub callers: Option<usize>,

@@ -3,7 +3,7 @@
 //! A line is at most one word for what is told, one for how a document is read, and the document.
 //!
 //! - Told is the plan (`of_plan`), or what is wrong; by `accepts` and `spare` only that the plan is
-//!   accepted, or its spare stores; by `line` only the line that is wrong.
+//!   accepted, or its spare kind; by `line` only the line that is wrong.
 //! - It is read whole, by `slow` from a reader that gives one byte a call, by `reader` from another
 //!   one, by `file` from a file.
 //! - `two` is the plan of two nodes; `change slots = 2 => slots = 3` that plan, changed at the first
@@ -208,7 +208,7 @@ fn what_is_wrong(text: &str, is_line_alone: bool) -> Text {
     }
 }
 
-/// Slots, callers, successors, tries and the wait; spare stores; nodes; and of each ask the caller,
+/// Slots, callers, successors, tries and the wait; the spare kind; nodes; of each ask the caller,
 /// the node and the request, as `RequestText` shows it.
 fn of_plan(plan: &Plan) -> Text {
     let spare = plan.spare;
@@ -296,7 +296,7 @@ missing > no such file
 even 1 > 64 64 4 20 100, spare Tree, 0 Tree
 even 2 > 64 64 4 20 100, spare Tree, 0 Tree, B Tree
 even 3 > 64 64 4 20 100, spare Tree, 0 Tree, 55555555555555550000000000000000 Tree, aaaaaaaaaaaaaaaa0000000000000000 Tree
-# spare stores are trees, or of the kind that the plan names
+# stores of nodes that join later are trees, or of the kind that the plan names
 spare two > Tree
 spare change slots = 2 => spare = "tree"|slots = 2 > Tree
 spare change slots = 2 => spare = "list"|slots = 2 > List
@@ -355,7 +355,7 @@ nodeless node = 3 > node: no tables
 nodeless node = [3] > node: no tables
 nodeless ask = 3|[[node]]|id = "40000000000000000000000000000000"|store = "tree"| > ask: no tables
 nodeless ask = [3]|[[node]]|id = "40000000000000000000000000000000"|store = "tree"| > ask: no tables
-# spare stores
+# the kind of stores of nodes that join later
 change slots = 2 => spare = 3|slots = 2 > spare: no text
 change slots = 2 => spare = "tre"|slots = 2 > spare: unknown kind "tre"
 change slots = 2 => spare = "capped"|slots = 2 > limit: missing

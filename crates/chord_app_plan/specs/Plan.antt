@@ -68,7 +68,7 @@ KindIs key members store.List = text_at key members ≡ Some (codes "list")
 KindIs key members store.Noted = text_at key members ≡ Some (codes "noted")
 KindIs key members (store.Capped limit) = (text_at key members ≡ Some (codes "capped")) × (number_at (codes "limit") members ≡ Some (pos limit)) × (limit < 2 ^ 63)
 
--- the kind of the spare stores in the plan's own table: trees if it names none
+-- the kind of store of nodes that join later, in the plan's own table: a tree if it names none
 abbrev pub SpareIs : Members → StoreKind → Type 0
 SpareIs members kind = ((get_member (codes "spare") members ≡ None) × (kind ≡ store.Tree)) ⊎ KindIs (codes "spare") members kind
 

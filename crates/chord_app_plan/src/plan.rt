@@ -32,7 +32,7 @@ const EVEN_SETTINGS: Settings = Settings {
 #[derive(Debug, Drop)]
 pub struct Plan {
     pub settings: Settings,
-    /// The kind of the spare stores, for nodes that join while a server runs.
+    /// The kind of store of a node that joins while a server runs.
     pub spare: StoreKind,
     /// In the order in which they join. The first creates the ring.
     pub nodes: Vec<PlanNode>,

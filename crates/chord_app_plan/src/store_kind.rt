@@ -37,7 +37,8 @@ impl StoreKind {
         }
     }
 
-    /// The kind of the spare stores that the plan's own table names: trees if it names none.
+    /// The kind of store of nodes that join later, as the plan's own table names it: a tree if it
+    /// names none.
     pub(crate) fn read_spare(alloc: Global, top: &Entries) -> Result<StoreKind, PlanFault>
         ensures value { IfOk result (SpareIs (members_of top.now)) }
         ensures accepts { (kind : StoreKind) → SpareIs (members_of top.now) kind → IsOkUnless result PlanFault.OutOfMemory }

@@ -10,6 +10,7 @@ use Rattle.http1.specs.Client.{new_client, planned_request}
 use Rattle.chord_ident.specs.declared.id.Id.{Id}
 use Rattle.chord_app_operator.specs.declared.request.calls.JoinRequest.{JoinRequest}
 use Rattle.chord_app_operator.specs.declared.request.calls.PairsRequest.{PairsRequest}
+use Rattle.chord_app_operator.specs.declared.request.rows.Rows.TheVariants.{Present, All}
 use Rattle.chord_app_operator.specs.Words.{store_word}
 use Rattle.chord_app_operator.specs.Json.{count_data, id_hex, id_data, record_of}
 use Rattle.chord_app_ring.specs.declared.command.RingCommand.{RingCommand}
@@ -17,7 +18,7 @@ use Rattle.chord_app_ring.specs.declared.command.RingCommand.TheVariants.{Show, 
 
 -- one looks by GET, and acts by POST
 abbrev pub method_of : RingCommand → List ℕ
-method_of Show = codes "GET"
+method_of (Show rows) = codes "GET"
 method_of (Join request) = codes "POST"
 method_of (Leave node) = codes "POST"
 method_of (Crash request) = codes "POST"
@@ -26,7 +27,8 @@ method_of Stop = codes "POST"
 
 -- the path
 abbrev pub path_of : RingCommand → List ℕ
-path_of Show = codes "/ring"
+path_of (Show Present) = codes "/ring"
+path_of (Show All) = codes "/ring?all"
 path_of (Join request) = codes "/nodes"
 path_of (Leave node) = codes "/nodes/" ++ decimal node ++ codes "/leave"
 path_of (Crash request) = codes "/nodes/" ++ decimal request.node ++ codes "/crash"
@@ -52,7 +54,7 @@ force_data = record_of ((codes "force", boolean true) ∷ [])
 
 -- the body
 abbrev pub body_of : RingCommand → List ℕ
-body_of Show = []
+body_of (Show rows) = []
 body_of (Join request) = compact_text (join_data request)
 body_of (Leave node) = []
 body_of (Crash request) = if request.is_forced then compact_text force_data else []
@@ -61,7 +63,7 @@ body_of Stop = []
 
 -- its length is stated where one acts
 abbrev pub size_of : RingCommand → BodySize
-size_of Show = Empty
+size_of (Show rows) = Empty
 size_of (Join request) = Known (length (body_of (Join request)))
 size_of (Leave node) = Known 0
 size_of (Crash request) = Known (length (body_of (Crash request)))

@@ -2,13 +2,13 @@
 ghost use Rattle.std.specs.Prelude.{◌≡◌};
 ghost use Rattle.chord_app_ring.specs.Asked.{method_of};
 
-use chord_app_operator::{CrashRequest, JoinRequest};
+use chord_app_operator::{CrashRequest, JoinRequest, Rows};
 
 /// What an operator asks a server for.
 #[derive(Clone, Copy, Debug, PartialEq, Eq)]
 pub enum RingCommand {
-    /// A look at the ring.
-    Show,
+    /// A look at the ring, with these nodes.
+    Show(Rows),
     Join(JoinRequest),
     /// The node with this number is to leave.
     Leave(u64),
@@ -25,7 +25,7 @@ impl RingCommand {
         ensures { result.now ≡ method_of self.now }
     {
         match self {
-            RingCommand::Show => "GET",
+            RingCommand::Show(_) => "GET",
             _ => "POST",
         }
     }

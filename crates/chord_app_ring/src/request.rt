@@ -7,7 +7,7 @@ ghost use Rattle.chord_app_ring.specs.Asked.{path_of, put_if, join_data, body_of
 ghost use Rattle.http1.specs.Client.{new_client};
 
 use crate::command::RingCommand;
-use chord_app_operator::{JoinRequest, PairsRequest, ToJson, id_text};
+use chord_app_operator::{JoinRequest, PairsRequest, Rows, ToJson, id_text};
 use http1::{BodySize, Client, Header};
 use serde_json::{Map, Value, json, put};
 use std::alloc::{AllocError, Global};
@@ -17,7 +17,8 @@ pub fn request_path(alloc: Global, command: &RingCommand) -> Result<String, Allo
     ensures { IfOk result (λ path. string_bytes path ≡ path_of command.now) }
 {
     match command {
-        RingCommand::Show => String::from_str(alloc, "/ring"),
+        RingCommand::Show(Rows::Present) => String::from_str(alloc, "/ring"),
+        RingCommand::Show(Rows::All) => String::from_str(alloc, "/ring?all"),
         RingCommand::Join(_) => String::from_str(alloc, "/nodes"),
         RingCommand::Leave(node) => format!(in alloc; "/nodes/{node}/leave"),
         RingCommand::Crash(request) => {
@@ -95,7 +96,7 @@ fn body_size(command: &RingCommand, body: &str) -> BodySize
     ensures { result ≡ size_of command.now }
 {
     match command {
-        RingCommand::Show => BodySize::Empty,
+        RingCommand::Show(_) => BodySize::Empty,
         _ => BodySize::Known(body.len() as u64),
     }
 }

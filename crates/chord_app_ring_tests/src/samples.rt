@@ -59,6 +59,7 @@ pub fn empty_ring(alloc: Global) -> RingSight {
     RingSight {
         successors: 4,
         slots: 16,
+        ever: 41,
         premise: true,
         callers: CallerCounts {
             open: 3,
@@ -114,6 +115,7 @@ pub fn empty_ring(alloc: Global) -> RingSight {
             processor_ms: 1250,
         },
         uptime_ms: 12345,
+        past_forwards: 40,
         nodes: Vec::new(alloc),
     }
 }

@@ -3,6 +3,7 @@ pub mod Asked
 pub mod Counts
 pub mod Gaps
 pub mod Keeping
+pub mod Made
 pub mod Pace
 pub mod ReadPairs
 pub mod Shown

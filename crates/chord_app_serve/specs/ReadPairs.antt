@@ -1,5 +1,5 @@
 -- How an operator is told of the pairs of a ring. Source: our own.
-use Rattle.std.specs.Prelude.{◌≡◌, ◌⊎◌, ◌+◌, ◌-◌, ◌%◌, ◌^◌, ◌&&◌, ℕ, nat_le, nat_lt, max, map, slice_get, true, Option, Some, None, List, [], if◌then◌else◌}
+use Rattle.std.specs.Prelude.{◌≡◌, ◌⊎◌, ◌+◌, ◌-◌, ◌%◌, ◌^◌, ◌&&◌, ℕ, nat_le, nat_lt, max, map, slice_get, Bool, true, false, Option, Some, None, List, [], if◌then◌else◌}
 use Rattle.chord_app_operator.specs.declared.operator.pairs.Pair.{Pair}
 use Rattle.chord_app_operator.specs.declared.operator.pairs.PairsPage.{PairsPage}
 use Rattle.chord_app_operator.specs.declared.operator.pairs.PageState.{PageState}
@@ -9,9 +9,11 @@ use Rattle.chord_ident.specs.Circle.{in_span}
 use Rattle.chord_ident.specs.declared.id.Id.{Id}
 use Rattle.chord_ident.specs.declared.span.Span.{Span}
 use Rattle.chord_live_ring.specs.Sights.{IsPageShown, IsSightOf}
+use Rattle.chord_model.specs.declared.phase.Phase.{Phase as NodePhase}
 use Rattle.chord_sight.specs.declared.node.NodeSight.{NodeSight}
 use Rattle.chord_sight.specs.declared.parts.OutboxSight.{OutboxSight}
 use Rattle.chord_sight.specs.declared.parts.SegmentSight.{SegmentSight}
+use Rattle.chord_sight.specs.declared.phase.Phase.{Phase}
 use Rattle.chord_sight.specs.declared.phase.Phase.TheVariants.{Crashed}
 use Rattle.chord_node.specs.declared.pages.PairsPage.{PairsPage as NodePage}
 use Rattle.chord_node.specs.declared.pages.PlacedPair.{PlacedPair}
@@ -63,6 +65,12 @@ item_span item = item.span
 abbrev pub HasSpan : {X : Type 0} → (X → Span) → List X → Id → Span → Type 0
 HasSpan {X = X} span_of items first span =
     (place : ℕ) × (item : X) × (slice_get items place ≡ Some item) × (span_of item ≡ span) × (in_span span first.number ≡ true)
+
+-- whether a handover will not end: its giver crashed, or its receiver, which has no phase then
+abbrev pub is_stuck : Phase → Option NodePhase → Bool
+is_stuck Crashed receiver = true
+is_stuck giver None = true
+is_stuck giver (Some phase) = false
 
 -- a node that crashed has a segment with the span, or a node gives a segment with it away
 abbrev pub IsLostBy : NodeSight → Id → Span → Type 0

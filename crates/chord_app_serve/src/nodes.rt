@@ -59,7 +59,10 @@ fn retire_if_empty<J: Naming, S: EntryStore>(
 /// processor has it between two nodes, so that no request waits for a whole round.
 fn tick_round<J: Naming, S: EntryStore>(rt: &impl Wait, ring: &Ring<J, S>) -> Option<Round> {
     let mut all = Round::Quiet;
-    for number in 0..ring.node_count() {
+    for slot in 0..ring.slot_count() {
+        let Some(number) = ring.number_at(slot) else {
+            continue;
+        };
         let round = match ring.tick(rt, number) {
             Ok(round) => round,
             Err(TickFault::Stopped) => return None,
@@ -111,26 +114,28 @@ impl<
             .is_ok()
     }
 
-    /// Starts the workers of the nodes `first` to `nodes` - 1. A node leaves if there is no memory
-    /// for its worker.
-    fn start_all(&self, first: u64, nodes: u64) {
-        for number in first..nodes {
-            if !self.start(number) {
-                let _ = self.ring.leave(self.rt, number).is_ok();
+    /// Starts the workers of the nodes that have none. A node leaves if there is no memory for its
+    /// worker. Says whether there was.
+    fn start_all(&self) -> bool {
+        let mut is_enough = true;
+        for slot in 0..self.ring.slot_count() {
+            if let Some(number) = self.ring.without_worker(slot) {
+                if !self.start(number) {
+                    let _ = self.ring.leave(self.rt, number).is_ok();
+                    is_enough = false;
+                }
             }
         }
+        is_enough
     }
 
-    /// Ticks all nodes in rounds until the ring is stopped, and starts a worker for each that joins
-    /// the first ones. It rests between rounds, the longer the quieter they are, until a node
-    /// comes, leaves or crashes.
-    pub fn tick_in_turn(&self, first_nodes: u64) {
+    /// Ticks all nodes in rounds until the ring is stopped, and starts a worker for each that
+    /// joins. It rests between rounds, the longer the quieter they are, until a node comes, leaves
+    /// or crashes.
+    pub fn tick_in_turn(&self) {
         let mut pace = Pace::new();
-        let mut working = first_nodes;
         for _ in self.rt.forever() {
-            let nodes = self.ring.node_count();
-            self.start_all(working, nodes);
-            working = nodes;
+            let _ = self.start_all();
             let Some(round) = tick_round(self.rt, self.ring) else {
                 return;
             };
@@ -144,7 +149,7 @@ impl<
     /// Adds a node, starts its worker, and does eight rounds of upkeep.
     fn start_node(&self, number: usize, node: &PlanNode, store: S) -> Result<(), Finish> {
         enter(self.rt, self.ring, number, node, store)?;
-        if !self.start(number as u64) {
+        if !self.start_all() {
             return Err(Finish::OutOfMemory);
         }
         for _ in 0..ROUNDS {

@@ -86,9 +86,8 @@ fn ask_at_once<
     ensures { IfOk result (λ run. AreGroups (map caller_in run.callers.items) run.all.items) }
 {
     let Workers { rt, ring, scope } = workers;
-    let nodes = plan.nodes.len() as u64;
     if scope
-        .spawn(move || Workers { rt, ring, scope }.tick_in_turn(nodes))
+        .spawn(move || Workers { rt, ring, scope }.tick_in_turn())
         .is_err()
     {
         return Err(Finish::OutOfMemory);

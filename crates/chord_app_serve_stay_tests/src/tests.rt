@@ -8,3 +8,4 @@ mod redis_hostile;
 mod resumes;
 mod stay_growths;
 mod stays;
+mod surplus;

@@ -13,7 +13,7 @@ pub use chord_serve_testkit::{
     expect_end, fill, insert, leave, reply_frame, request_frame, retrieve,
 };
 pub use handle::Handle;
-pub use plans::{plan_with, stores, two_stores};
+pub use plans::{plan_with, two_stores};
 pub use players::{
     Played, WAITS, follow, follow_noted, follow_to_the_end, serve_beside, stay_beside,
 };

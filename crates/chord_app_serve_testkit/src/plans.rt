@@ -12,16 +12,11 @@ pub fn plan_with(alloc: Global, callers: u64) -> Option<Plan> {
     plan_of(alloc, text.as_str())
 }
 
-/// Stores with room for `limit` pairs each.
-pub fn stores(alloc: Global, count: usize, limit: u64) -> Result<Vec<CappedStore>, AllocError> {
+/// A store for each of two nodes, with room for `limit` pairs.
+pub fn two_stores(alloc: Global, limit: u64) -> Result<Vec<CappedStore>, AllocError> {
     let mut stores = Vec::new(alloc);
-    for _ in 0..count {
+    for _ in 0..2u64 {
         stores.push(CappedStore::new(alloc, limit))?;
     }
     Ok(stores)
-}
-
-/// A store for each of two nodes, with room for `limit` pairs.
-pub fn two_stores(alloc: Global, limit: u64) -> Result<Vec<CappedStore>, AllocError> {
-    stores(alloc, 2, limit)
 }

@@ -1,8 +1,8 @@
 //! A server of a ring of two nodes, and who asks it, each on a thread of its own.
 
-use crate::plans::{stores, two_stores};
+use crate::plans::two_stores;
 use chord_app_plan::Plan;
-use chord_app_serve::{ServerStores, WholeRing, serve, stay};
+use chord_app_serve::{WholeRing, serve, stay};
 use chord_app_sockets::{ClientLimits, Doors, Host, OperatorPort, ServerSetup};
 use chord_app_text::Finish;
 use chord_serve_testkit::{Addresses, bound};
@@ -24,9 +24,9 @@ pub enum Speech {
 #[derive(Clone, Copy)]
 pub struct Size {
     pub callers: u64,
-    /// How many pairs each store has room for.
+    /// How many pairs the store of each of the two nodes has room for.
     pub room: u64,
-    /// How many nodes may join the two of the plan.
+    /// How many nodes there may be at once beside the two of the plan.
     pub joining: usize,
     /// How often a request is sent at most. Each sending is waited for a tenth of a second.
     pub tries: u64,
@@ -130,7 +130,7 @@ fn serve_on<'a, R: Host, L: Log + Sync>(
     notes: &'a L,
 ) -> Result<Vec<u8>, Finish> {
     let mut written: Vec<u8> = Vec::new(alloc);
-    let nodes = two_stores(alloc, size.room)?;
+    let stores = two_stores(alloc, size.room)?;
     let doors = listeners.doors(size.speech);
     let operator = listeners.operator_port(size.operator);
     let mut settings = plan.settings_with(Some(size.joining.saturating_add(2)), None);
@@ -147,12 +147,12 @@ fn serve_on<'a, R: Host, L: Log + Sync>(
     let has_its_callers = match ending {
         Ending::Connections(connections) => {
             let callers = connections.min(settings.callers);
-            serve(rt, &setup, nodes, connections, &mut written)? == (WholeRing { callers })
+            serve(rt, &setup, stores, connections, &mut written)?
+                == (WholeRing { nodes: 2, callers })
         }
         Ending::Input(input, seconds) => {
-            let spares = stores(alloc, size.joining, size.room)?;
-            let all = ServerStores { nodes, spares };
-            stay(rt, &setup, all, seconds, Some(input), &mut written)?.callers <= settings.callers
+            let ring = stay(rt, &setup, stores, seconds, Some(input), &mut written)?;
+            2 <= ring.nodes && ring.callers <= settings.callers
         }
     };
     if !has_its_callers {

@@ -3,7 +3,7 @@ ghost use Rattle.std.specs.Prelude.{◌≡◌, ◌≤◌, ◌<◌, [], ◌∷◌
 ghost use Rattle.chord_caller.specs.Answers.{PendingIs, is_pending};
 ghost use Rattle.chord_caller.specs.Caller.{floor_of, next_number};
 ghost use Rattle.chord_live_steps.specs.Asking.{CallIs, GaveUpSome, GiveUpIs, RetryIs};
-ghost use Rattle.chord_live_steps.specs.Begun.{BeginIs, IsCallOf, MaySubmit, Submitted};
+ghost use Rattle.chord_live_steps.specs.Begun.{BeginIs, IsCallOf, Submitted};
 ghost use Rattle.chord_live_steps.specs.Ending.{Ended};
 ghost use Rattle.chord_live_types.specs.declared.caller.AskFault.TheVariants as AskFault;
 ghost use Rattle.chord_live_types.specs.declared.caller.BeginFault.TheVariants as BeginFault;
@@ -151,7 +151,6 @@ impl<'a, J: Naming, S: EntryStore, C: AskingCore> RingCaller<'a, J, S, C> {
         ensures number { IfOk result (λ sent. sent.0 ≡ next_number self.old.caller) }
         ensures ok { IfOk result (λ sent. Submitted request self.old self.new) }
         ensures call { IfOk result (λ sent. IsCallOf self.new.caller sent.0 sent.1) }
-        ensures placed { J.name.slots ≤ via → MaySubmit request self.old.caller → result ≡ Err BeginFault.NoSuchNode }
         ensures err { IfErr result (λ fault. BeginIs request self.old.caller (Err fault) self.new.caller) }
         ensures same { OnErr result (self.new ≡ self.old) }
     {
@@ -172,7 +171,6 @@ impl<'a, J: Naming, S: EntryStore, C: AskingCore> RingCaller<'a, J, S, C> {
     /// Submits a request, sends it once, and gives its number without waiting.
     pub fn begin(&mut self, rt: &impl Wait, via: u64, request: Request) -> Result<u64, BeginFault>
         ensures answer { BeginIs request self.old.caller result self.new.caller }
-        ensures placed { J.name.slots ≤ via → MaySubmit request self.old.caller → result ≡ Err BeginFault.NoSuchNode }
         ensures messages { self.new.messages ≡ self.old.messages }
         ensures shown { CallerShown self.new }
     {
@@ -442,7 +440,6 @@ impl<'a, J: Naming, S: EntryStore, C: AskingCore> RingCaller<'a, J, S, C> {
         request: Request,
     ) -> Result<Reply, AskFault>
         ensures answer { CallIs C.ends request self.old result self.new }
-        ensures placed { J.name.slots ≤ way.via → MaySubmit request self.old.caller → result ≡ Err (AskFault.Begin BeginFault.NoSuchNode) }
     {
         let (number, envelope) = match self.submit(way.via, request) {
             Ok(sent) => sent,
@@ -462,7 +459,6 @@ impl<'a, J: Naming, S: EntryStore, C: AskingCore> RingCaller<'a, J, S, C> {
         number: u64,
     ) -> Result<Reply, RetryFault>
         ensures answer { RetryIs C.ends number self.old result self.new }
-        ensures placed { J.name.slots ≤ way.via → is_pending number self.old.caller ≡ true → result ≡ Err RetryFault.NoSuchNode }
     {
         if !self.own.is_pending(number) {
             return Err(RetryFault::Idle);
@@ -489,7 +485,6 @@ impl<'a, J: Naming, S: EntryStore, C: AskingCore> RingCaller<'a, J, S, C> {
         request: Request,
     ) -> Result<Reply, AskFault>
         ensures answer { CallIs C.ends request self.old result self.new }
-        ensures placed { J.name.slots ≤ via → MaySubmit request self.old.caller → result ≡ Err (AskFault.Begin BeginFault.NoSuchNode) }
         ensures shown { CallerShown self.new }
     {
         let answered = self.submit_and_send(rt, Way::carried(via), request);
@@ -507,7 +502,6 @@ impl<'a, J: Naming, S: EntryStore, C: AskingCore> RingCaller<'a, J, S, C> {
         number: u64,
     ) -> Result<Reply, RetryFault>
         ensures answer { RetryIs C.ends number self.old result self.new }
-        ensures placed { J.name.slots ≤ via → is_pending number self.old.caller ≡ true → result ≡ Err RetryFault.NoSuchNode }
         ensures shown { CallerShown self.new }
     {
         let answered = self.send_pending(rt, Way::carried(via), number);
@@ -524,7 +518,6 @@ impl<'a, J: Naming, S: EntryStore, C: AskingCore> RingCaller<'a, J, S, C> {
         request: Request,
     ) -> Result<Reply, AskFault>
         ensures answer { CallIs C.ends request self.old result self.new }
-        ensures placed { J.name.slots ≤ via → MaySubmit request self.old.caller → result ≡ Err (AskFault.Begin BeginFault.NoSuchNode) }
         ensures shown { CallerShown self.new }
     {
         let answered = self.submit_and_send(rt, Way::tried(via), request);
@@ -541,7 +534,6 @@ impl<'a, J: Naming, S: EntryStore, C: AskingCore> RingCaller<'a, J, S, C> {
         number: u64,
     ) -> Result<Reply, RetryFault>
         ensures answer { RetryIs C.ends number self.old result self.new }
-        ensures placed { J.name.slots ≤ via → is_pending number self.old.caller ≡ true → result ≡ Err RetryFault.NoSuchNode }
         ensures shown { CallerShown self.new }
     {
         let answered = self.send_pending(rt, Way::tried(via), number);
@@ -558,7 +550,6 @@ impl<'a, J: Naming, S: EntryStore, C: AskingCore> RingCaller<'a, J, S, C> {
         request: Request,
     ) -> Result<Reply, AskFault>
         ensures answer { CallIs C.ends request self.old result self.new }
-        ensures placed { J.name.slots ≤ via → MaySubmit request self.old.caller → result ≡ Err (AskFault.Begin BeginFault.NoSuchNode) }
         ensures shown { CallerShown self.new }
     {
         let answered = self.submit_and_send(rt, Way::by_inbox(via), request);
@@ -574,7 +565,6 @@ impl<'a, J: Naming, S: EntryStore, C: AskingCore> RingCaller<'a, J, S, C> {
         number: u64,
     ) -> Result<Reply, RetryFault>
         ensures answer { RetryIs C.ends number self.old result self.new }
-        ensures placed { J.name.slots ≤ via → is_pending number self.old.caller ≡ true → result ≡ Err RetryFault.NoSuchNode }
         ensures shown { CallerShown self.new }
     {
         let answered = self.send_pending(rt, Way::by_inbox(via), number);

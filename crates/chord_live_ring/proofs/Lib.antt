@@ -3,6 +3,5 @@ pub mod Coming
 pub mod Departures
 pub mod Gathering
 pub mod Looked
-pub mod Moments
 pub mod Places
 pub mod Relinked

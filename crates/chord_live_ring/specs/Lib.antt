@@ -1,7 +1,6 @@
 pub mod Deeds
 pub mod Departures
 pub mod Journals
-pub mod Moments
 pub mod Parts
 pub mod Refused
 pub mod SeatedCalls

@@ -1,26 +1,28 @@
 //! The links of all members, while a departure is judged.
-ghost use Rattle.std.specs.Prelude.{◌≡◌, ◌<◌, ◌++◌, ◌∷◌, [], IfOk, length};
+ghost use Rattle.std.specs.Prelude.{◌≡◌, ◌<◌, ◌++◌, [], IfOk, length};
+ghost use Rattle.chord_live_steps.specs.Departures.{row_of};
 ghost use Rattle.chord_table.specs.Scenes.{place_of};
 
 use chord_links::Links;
 use chord_node::{Node, Phase};
+use chord_ring::MemberRow;
 use chord_store::EntryStore;
 use chord_table::Naming;
 use std::alloc::{AllocError, Global};
 use std::marker::{Model, PhantomData};
 
-/// What the ring has of nodes, by number, with room for all slots. Contracts see the rows.
+/// The rows of members, with room for all slots. Contracts see the rows.
 #[derive(Drop)]
 pub(crate) struct Board<J: Naming> {
-    rows: Vec<Option<Links>>,
+    rows: Vec<MemberRow>,
     of: PhantomData<J>,
 }
 
 impl<J: Naming> Model for Board<J> {
-    ghost use Rattle.std.specs.Prelude.{◌≤◌, vec_capacity};
-    ghost use Rattle.chord_ring.specs.Ring.{Members};
+    ghost use Rattle.std.specs.Prelude.{◌≤◌, List, vec_capacity};
+    ghost use Rattle.chord_ring.specs.declared.member_row.MemberRow.{MemberRow};
 
-    ghost Value = { Members };
+    ghost Value = { List MemberRow };
 
     ghost view = { λ board. board.rows.items };
 
@@ -47,16 +49,20 @@ impl<J: Naming> Board<J> {
         self.rows.clear();
     }
 
-    /// Posts a node, which crashed or not.
+    /// Posts a node, which crashed or not, if it is a member.
+    #[tactic(auto, using(crate::proofs::Departures::no_row))]
     pub(crate) fn post<S: EntryStore>(&mut self, node: &Node<S>, crashed: bool)
         requires { length self.old < J.name.slots }
-        ensures { self.new ≡ self.old ++ place_of crashed node.now ∷ [] }
+        ensures { self.new ≡ self.old ++ row_of node.now.number (place_of crashed node.now) }
     {
-        self.rows.push_reserved(place_of(node, crashed));
+        if let Some(links) = place_of(node, crashed) {
+            let number = node.number();
+            self.rows.push_reserved(MemberRow { number, links });
+        }
     }
 
     /// The rows.
-    pub(crate) fn rows(&self) -> &[Option<Links>]
+    pub(crate) fn rows(&self) -> &[MemberRow]
         ensures { result.now ≡ self.now }
     {
         self.rows.as_slice()

@@ -15,6 +15,8 @@ use chord_table::{CallerSeat, Naming, Registrar, Shared};
 #[derive(Drop)]
 pub struct Closed<J: Naming> {
     pub seats: Registrar<J>,
+    /// How many nodes the ring had, with those that are gone.
+    pub nodes: u64,
     /// Whether these are all nodes and callers that the ring admitted.
     pub is_whole: bool,
 }
@@ -51,14 +53,15 @@ fn is_count(count: Option<u64>, all: u64) -> bool
 }
 
 impl<J: Naming> Gathering<J> {
-    /// No seats yet.
-    fn of(registrar: Registrar<J>) -> Gathering<J>
-        requires { registrar.taken ≡ [] }
+    /// The seats that the registrar has: of so many nodes, and of no caller.
+    fn of(registrar: Registrar<J>, held: u64) -> Gathering<J>
+        requires nodes { length (nodes_among registrar.taken) ≡ held }
+        requires callers { callers_among registrar.taken ≡ [] }
         ensures { result.seats ≡ registrar }
     {
         Gathering {
             seats: registrar,
-            nodes: Some(0),
+            nodes: Some(held),
             callers: Some(0),
         }
     }
@@ -88,7 +91,9 @@ impl<J: Naming> Gathering<J> {
     {
         let Slot {
             state,
+            number: _,
             live: _,
+            worker: _,
             ticks: _,
             again_item: _,
             again_part: _,
@@ -131,6 +136,8 @@ impl<J: Naming> Gathering<J> {
         ensures same { result.seats ≡ self.seats }
         ensures shown { AssemblyShown result.seats }
         ensures whole { result.is_whole ≡ true → WholeShown result.seats }
+        ensures counted { result.is_whole ≡ true
+            → length (nodes_among result.seats.taken) ≡ result.nodes }
     {
         let is_whole = is_count(self.nodes, nodes) && is_count(self.callers, callers);
         let mut seats = self.seats;
@@ -138,7 +145,11 @@ impl<J: Naming> Gathering<J> {
         if is_whole {
             seats.look_whole(table);
         }
-        Closed { seats, is_whole }
+        Closed {
+            seats,
+            nodes,
+            is_whole,
+        }
     }
 }
 
@@ -150,6 +161,8 @@ impl<J: Naming, S: EntryStore> Ring<J, S> {
         ensures callers { callers_among result.seats.taken ≡ map (λ (c : CallerSight). c.caller) callers.items }
         ensures shown { AssemblyShown result.seats }
         ensures whole { result.is_whole ≡ true → WholeShown result.seats }
+        ensures counted { result.is_whole ≡ true
+            → length (nodes_among result.seats.taken) ≡ result.nodes }
     {
         let Ring {
             table,
@@ -159,7 +172,8 @@ impl<J: Naming, S: EntryStore> Ring<J, S> {
         } = self;
         let Register { numbers } = register.into_inner();
         let (nodes, places) = (numbers.nodes() as u64, numbers.callers() as u64);
-        let mut all = Gathering::of(numbers.into_registrar());
+        let held = numbers.held() as u64;
+        let mut all = Gathering::of(numbers.into_registrar(), held);
         all.take_slots(&table, slots);
         all.take_callers(&table, callers);
         all.finish(&table, nodes, places)

@@ -1,8 +1,8 @@
 //! Nodes that depart: a crash or a retirement is judged under the locks of all nodes.
-ghost use Rattle.std.specs.Prelude.{◌≡◌, ◌≢◌, ◌≤◌, ◌<◌, [], false, true, map, OnOk, OnErr};
+ghost use Rattle.std.specs.Prelude.{◌≡◌, ◌≢◌, ◌≤◌, ◌<◌, ◌+◌, ◌^◌, false, true, length, map, OnOk, OnErr};
 ghost use Rattle.chord_live_ring.specs.declared.slot.SlotState.TheVariants.{Here, Crashed};
 ghost use Rattle.chord_live_ring.specs.Departures.{LeavesEmpty, crashed_after, node_after, seated_after};
-ghost use Rattle.chord_live_steps.specs.Departures.{AreTaken, MayDepart, departed};
+ghost use Rattle.chord_live_steps.specs.Departures.{MayDepart, departed, rows_among};
 ghost use Rattle.chord_live_steps.specs.declared.departure.Departure.TheVariants.{Crash};
 
 use crate::board::Board;
@@ -24,7 +24,7 @@ impl<J: Naming, S: EntryStore> Ring<J, S> {
     /// together without it. It is judged under the locks of all nodes, but for a node that is
     /// rescued, which is no member.
     pub fn retire(&self, rt: &impl Wait, number: u64) -> Result<(), RingRetireFault> {
-        if !self.was_admitted(number) {
+        if !self.has_slot(number) {
             return Err(RingRetireFault::NoSuchNode);
         }
         if let Some(retired) = self.retire_rescued(rt, number) {
@@ -40,7 +40,7 @@ impl<J: Naming, S: EntryStore> Ring<J, S> {
     /// Crashes a node if the ring holds together without it: it takes no further step, others find
     /// it dead, and its store stays as it is. It is judged under the locks of all nodes.
     pub fn crash_if_safe(&self, rt: &impl Wait, number: u64) -> Result<(), CrashFault> {
-        if !self.was_admitted(number) {
+        if !self.has_slot(number) {
             return Err(CrashFault::NoSuchNode);
         }
         let mut register = self.register.lock(rt);
@@ -51,18 +51,20 @@ impl<J: Naming, S: EntryStore> Ring<J, S> {
     /// without it: the premise of the ring is gone for good then. A node that crashed or is gone
     /// stays as it is.
     pub fn crash(&self, rt: &impl Wait, number: u64) -> Result<(), NoSuchNode> {
-        if !self.was_admitted(number) {
+        if !self.has_slot(number) {
             return Err(NoSuchNode);
         }
-        let Some(slot) = self.slots.get(number as usize) else {
+        let mut register = self.register.lock(rt);
+        let Some(slot) = self.slot_of(number) else {
             return Err(NoSuchNode);
         };
-        let mut register = self.register.lock(rt);
         let judged = self.depart(rt, &mut *register, Departure::Crash(number));
         if judged == Err(DepartFault::Unsafe) {
             let mut guard = slot.state.lock(rt);
-            slot.live.store(false, Ordering::SeqCst);
-            self.crash_by_force(&mut *register, &mut *guard);
+            if guard.has(number) {
+                slot.live.store(false, Ordering::SeqCst);
+                self.crash_by_force(&mut *register, &mut *guard);
+            }
             drop(guard);
             self.stir(rt);
         }
@@ -100,8 +102,8 @@ impl<J: Naming, S: EntryStore> Ring<J, S> {
         Ok(())
     }
 
-    /// Takes the seats of the nodes from this one on under their locks, decides, and gives the
-    /// seats back.
+    /// Takes the seats of the nodes in the slots from this one on under their locks, decides, and
+    /// gives the seats back.
     #[cycle(depart)]
     fn depart_from(
         &self,
@@ -111,27 +113,25 @@ impl<J: Naming, S: EntryStore> Ring<J, S> {
         departure: Departure,
         at: usize,
     ) -> Result<(), DepartFault>
-        requires count { at ≤ numbers.old.nodes }
-        requires taken { AreTaken at numbers.old.taken board.old }
-        requires may { MayDepart departure at numbers.old.taken }
+        requires few { length board.old ≤ at }
+        requires board { board.old ≡ rows_among numbers.old.taken }
+        requires may { MayDepart departure numbers.old.taken }
         ensures done { OnOk result (numbers.new ≡ record numbers.old { taken = map (departed departure) numbers.old.taken }) }
         ensures kept { OnErr result (numbers.new ≡ numbers.old) }
     {
-        if at >= numbers.nodes() {
-            return self.judge(numbers, board, departure);
-        }
         let Some(slot) = self.slots.get(at) else {
-            return Err(DepartFault::Unsafe);
+            return self.judge(numbers, board, departure);
         };
         let mut guard = slot.state.lock(rt);
         self.lend_in(rt, numbers, board, departure, at, &mut *guard)?;
-        if departure.number() == at as u64 {
+        if guard.has(departure.number()) {
             slot.live.store(false, Ordering::SeqCst);
         }
         Ok(())
     }
 
-    /// Takes the seat of the node in a slot, as `lend` does. A node that crashes so acts no more.
+    /// Takes the seat of the node in a slot, as `lend` does; a vacant slot is passed over. A node
+    /// that crashes so acts no more.
     #[cycle(depart)]
     fn lend_in(
         &self,
@@ -142,21 +142,23 @@ impl<J: Naming, S: EntryStore> Ring<J, S> {
         at: usize,
         state: &mut SlotState<J, S>,
     ) -> Result<(), DepartFault>
-        requires count { at < numbers.old.nodes }
         requires slot { at < J.name.slots }
-        requires taken { AreTaken at numbers.old.taken board.old }
-        requires may { MayDepart departure at numbers.old.taken }
+        requires next { at + 1 < 2 ^ 64 }
+        requires few { length board.old ≤ at }
+        requires board { board.old ≡ rows_among numbers.old.taken }
+        requires may { MayDepart departure numbers.old.taken }
         ensures done { OnOk result (numbers.new ≡ record numbers.old { taken = map (departed departure) numbers.old.taken }) }
         ensures kept { OnErr result (numbers.new ≡ numbers.old) }
-        ensures halted { OnOk result ((seated : _) → state.old ≡ Here seated → departure ≡ Crash at
+        ensures halted { OnOk result ((seated : _) → state.old ≡ Here seated → departure ≡ Crash seated.node.number
             → state.new ≡ Crashed (record seated { crashed = true })) }
     {
         match state {
-            SlotState::Vacant => Err(DepartFault::Unsafe),
+            SlotState::Vacant => self.depart_from(rt, numbers, board, departure, at + 1),
             SlotState::Crashed(seated) => self.lend(rt, numbers, board, departure, at, seated),
             SlotState::Here(seated) => {
+                let number = seated.number();
                 self.lend(rt, numbers, board, departure, at, seated)?;
-                if departure == Departure::Crash(at as u64) {
+                if departure == Departure::Crash(number) {
                     state.halt();
                 }
                 Ok(())
@@ -164,15 +166,15 @@ impl<J: Naming, S: EntryStore> Ring<J, S> {
         }
     }
 
-    /// Decides, with the seats of all nodes.
+    /// Decides, with the seats of the nodes in all slots and of those that are gone for good.
     fn judge(
         &self,
         numbers: &mut Numbers<J>,
         board: &Board<J>,
         departure: Departure,
     ) -> Result<(), DepartFault>
-        requires taken { AreTaken numbers.old.nodes numbers.old.taken board.now }
-        requires may { MayDepart departure numbers.old.nodes numbers.old.taken }
+        requires board { board.now ≡ rows_among numbers.old.taken }
+        requires may { MayDepart departure numbers.old.taken }
         ensures done { OnOk result (numbers.new ≡ record numbers.old { taken = map (departed departure) numbers.old.taken }) }
         ensures kept { OnErr result (numbers.new ≡ numbers.old) }
     {
@@ -183,7 +185,7 @@ impl<J: Naming, S: EntryStore> Ring<J, S> {
         }
     }
 
-    /// Takes the seat of a node, goes on with the next one, and gives the seat back. The node is
+    /// Takes the seat of a node, goes on with the next slot, and gives the seat back. The node is
     /// then as the departure leaves it.
     #[cycle(depart)]
     fn lend(
@@ -195,17 +197,16 @@ impl<J: Naming, S: EntryStore> Ring<J, S> {
         at: usize,
         seated: &mut SeatedNode<J, S>,
     ) -> Result<(), DepartFault>
-        requires count { at < numbers.old.nodes }
         requires slot { at < J.name.slots }
-        requires taken { AreTaken at numbers.old.taken board.old }
-        requires may { MayDepart departure at numbers.old.taken }
+        requires few { length board.old ≤ at }
+        requires board { board.old ≡ rows_among numbers.old.taken }
+        requires may { MayDepart departure numbers.old.taken }
         ensures done { OnOk result (numbers.new ≡ record numbers.old { taken = map (departed departure) numbers.old.taken }) }
         ensures kept { OnErr result (numbers.new ≡ numbers.old) }
         ensures left { OnOk result (seated.new ≡ seated_after departure seated.old) }
-        ensures number { OnOk result (seated.old.node.number ≡ at) }
         ensures same { OnErr result (seated.new ≡ seated.old) }
     {
-        if seated.number() != at as u64 {
+        if numbers.held() >= numbers.nodes() {
             return Err(DepartFault::Unsafe);
         }
         if let Some(fault) = seated.departure_fault(departure) {

@@ -1,4 +1,8 @@
 //! How nodes hand segments over: in pieces, a handover at a time to each receiver.
+ghost use Rattle.std.specs.Prelude.{◌≡◌, ◌≢◌, OnOk};
+ghost use Rattle.chord_live_ring.specs.declared.slot.SlotState.TheVariants.{Here};
+ghost use Rattle.chord_model.specs.declared.phase.Phase.TheVariants.{Gone};
+
 use crate::reader::RingReader;
 use crate::ring::Ring;
 use crate::round::Round;
@@ -9,7 +13,7 @@ use chord_live_steps::Target;
 use chord_node::{GiveFault, Phase, ResendPartFault};
 use chord_route::find_successor;
 use chord_store::EntryStore;
-use chord_table::{Envelope, Naming};
+use chord_table::{Envelope, Naming, Shared};
 use std::alloc::AllocError;
 use std::sync::Wait;
 use std::sync::atomic::Ordering;
@@ -35,6 +39,38 @@ const PIECE_PAIRS: u64 = 512;
 
 /// How many parts a tick sends again at most.
 const PARTS_A_TICK: u64 = 16;
+
+/// Puts a piece into the outbox of the node in a slot, for the one in another slot: that acts and
+/// is not gone, so a node that is gone gets no new item. None is put there if one that waits goes
+/// to the same node: what is in an outbox is held by nobody.
+fn give_beside<J: Naming, S: EntryStore>(
+    table: &Shared<J>,
+    mine: &mut SlotState<J, S>,
+    theirs: &SlotState<J, S>,
+    handing: Handing,
+) -> Result<(u64, Envelope<J>), GiveFault>
+    ensures from { OnOk result ((seated : _) × (mine.old ≡ Here seated) × (seated.node.number ≡ handing.from)) }
+    ensures to { OnOk result ((other : _) × (theirs.now ≡ Here other) × (other.node.number ≡ handing.to) × (other.node.phase ≢ Gone)) }
+{
+    let Handing {
+        from,
+        place,
+        end,
+        to,
+    } = handing;
+    if !theirs.takes(to) {
+        return Err(GiveFault::NoSegment);
+    }
+    match mine {
+        SlotState::Here(seated) if seated.number() == from => {
+            if seated.end_of(place) != Some(end) || seated.gives_to(to) {
+                return Err(GiveFault::NoSegment);
+            }
+            seated.give_piece(table, place, to, PIECE_PAIRS)
+        }
+        _ => Err(GiveFault::NoSegment),
+    }
+}
 
 impl<J: Naming, S: EntryStore> Ring<J, S> {
     /// Gives a piece of the held segment at this index, which ends here, to the node that it
@@ -77,30 +113,30 @@ impl<J: Naming, S: EntryStore> Ring<J, S> {
         }
     }
 
-    /// Puts a piece into the outbox, unless one that waits there goes to the same node: what is in
-    /// an outbox is held by nobody.
+    /// Puts a piece into the outbox under both nodes' locks, the lower slot first.
     fn give_first(
         &self,
         rt: &impl Wait,
         handing: Handing,
     ) -> Result<(u64, Envelope<J>), GiveFault> {
-        let Handing {
-            from,
-            place,
-            end,
-            to,
-        } = handing;
-        let Some(slot) = self.slots.get(from as usize) else {
+        let Some(from) = self.index_of(handing.from) else {
             return Err(GiveFault::NoSegment);
         };
-        match &mut *slot.state.lock(rt) {
-            SlotState::Here(seated) => {
-                if seated.end_of(place) != Some(end) || seated.gives_to(to) {
-                    return Err(GiveFault::NoSegment);
-                }
-                seated.give_piece(&self.table, place, to, PIECE_PAIRS)
-            }
-            _ => Err(GiveFault::NoSegment),
+        let Some(to) = self.index_of(handing.to) else {
+            return Err(GiveFault::NoSegment);
+        };
+        let (giver, receiver) = (&self.slots[from].state, &self.slots[to].state);
+        if from == to {
+            return Err(GiveFault::NoSegment);
+        }
+        if from < to {
+            let mut mine = giver.lock(rt);
+            let theirs = receiver.lock(rt);
+            give_beside(&self.table, &mut *mine, &*theirs, handing)
+        } else {
+            let theirs = receiver.lock(rt);
+            let mut mine = giver.lock(rt);
+            give_beside(&self.table, &mut *mine, &*theirs, handing)
         }
     }
 
@@ -133,25 +169,24 @@ impl<J: Naming, S: EntryStore> Ring<J, S> {
         item: u64,
         part: u64,
     ) -> Result<Envelope<J>, ResendPartFault> {
-        let Some(slot) = self.slots.get(number as usize) else {
+        let Some(slot) = self.slot_of(number) else {
             return Err(ResendPartFault::NoPart);
         };
         match &mut *slot.state.lock(rt) {
-            SlotState::Here(seated) => seated.resend_part(&self.table, to, item, part),
+            SlotState::Here(seated) if seated.number() == number => {
+                seated.resend_part(&self.table, to, item, part)
+            }
             _ => Err(ResendPartFault::NoPart),
         }
     }
 
     /// The end of the first held segment of a node that is leaving or rescued.
     pub(crate) fn end_at_leaving(&self, rt: &impl Wait, number: u64) -> Option<Id> {
-        let slot = self.slots.get(number as usize)?;
+        let slot = self.slot_of(number)?;
         match &*slot.state.lock(rt) {
-            SlotState::Here(seated) => {
-                if seated.phase() == Phase::Leaving {
-                    seated.end_of(0)
-                } else {
-                    None
-                }
+            SlotState::Here(seated)
+                if seated.number() == number && seated.phase() == Phase::Leaving => {
+                seated.end_of(0)
             }
             _ => None,
         }
@@ -195,9 +230,9 @@ impl<J: Naming, S: EntryStore> Ring<J, S> {
     }
 
     fn outbox_item(&self, rt: &impl Wait, number: u64, place: u64) -> Option<(u64, u64)> {
-        let slot = self.slots.get(number as usize)?;
+        let slot = self.slot_of(number)?;
         match &*slot.state.lock(rt) {
-            SlotState::Here(seated) => seated.outbox_item(place),
+            SlotState::Here(seated) if seated.number() == number => seated.outbox_item(place),
             _ => None,
         }
     }
@@ -218,7 +253,7 @@ impl<J: Naming, S: EntryStore> Ring<J, S> {
     /// The receiver and the number of the outbox item that is sent again next, and its part. Behind
     /// the last item it begins anew at the first.
     fn next_again(&self, rt: &impl Wait, number: u64) -> Option<(u64, u64, u64)> {
-        let slot = self.slots.get(number as usize)?;
+        let slot = self.slot_of(number)?;
         let place = slot.again_item.load(Ordering::SeqCst);
         if let Some((to, item)) = self.outbox_item(rt, number, place) {
             return Some((to, item, slot.again_part.load(Ordering::SeqCst)));
@@ -231,7 +266,7 @@ impl<J: Naming, S: EntryStore> Ring<J, S> {
 
     /// Goes on by the next parts of the outbox item that was sent again, or by the next item.
     fn go_on_again(&self, number: u64, has_more: bool) {
-        let Some(slot) = self.slots.get(number as usize) else {
+        let Some(slot) = self.slot_of(number) else {
             return;
         };
         let (item, part) = (

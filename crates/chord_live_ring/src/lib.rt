@@ -20,6 +20,7 @@ mod counting;
 mod deed;
 mod departing;
 mod fault;
+mod freeing;
 mod handing_over;
 mod journaling;
 mod linking;

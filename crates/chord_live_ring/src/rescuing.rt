@@ -15,10 +15,7 @@ impl<J: Naming, S: EntryStore> Ring<J, S> {
     /// leaves, and answers as such a node does. It is no member of the ring, and its place there
     /// does not come back.
     pub fn rescue(&self, rt: &impl Wait, number: u64) -> Result<(), RescueFault> {
-        if !self.was_admitted(number) {
-            return Err(RescueFault::NoSuchNode);
-        }
-        let Some(slot) = self.slots.get(number as usize) else {
+        let Some(slot) = self.slot_of(number) else {
             return Err(RescueFault::NoSuchNode);
         };
         if self.is_stopped() {
@@ -30,16 +27,21 @@ impl<J: Naming, S: EntryStore> Ring<J, S> {
         if !self.some_node_stays(rt) {
             return Err(RescueFault::NoMember);
         }
-        if !slot.state.lock(rt).rescue(&self.table) {
+        let mut guard = slot.state.lock(rt);
+        if !guard.has(number) || !guard.rescue(&self.table) {
             return Err(RescueFault::NotCrashed);
         }
+        drop(guard);
         self.stir(rt);
         Ok(())
     }
 
     /// Whether some node stays.
     fn some_node_stays(&self, rt: &impl Wait) -> bool {
-        (0..self.node_count()).any(|number| self.phase_of(rt, number) == Some(Phase::Staying))
+        (0..self.slot_count()).any(|slot| match self.number_at(slot) {
+            Some(number) => self.phase_of(rt, number) == Some(Phase::Staying),
+            None => false,
+        })
     }
 
     /// Sends handovers of a rescued node again, and gives away a piece of its first held segment, to
@@ -65,9 +67,9 @@ impl<J: Naming, S: EntryStore> Ring<J, S> {
         rt: &impl Wait,
         number: u64,
     ) -> Option<Result<(), RingRetireFault>> {
-        let slot = self.slots.get(number as usize)?;
+        let slot = self.slot_of(number)?;
         match &mut *slot.state.lock(rt) {
-            SlotState::Here(seated) if seated.has_crashed() => {
+            SlotState::Here(seated) if seated.number() == number && seated.has_crashed() => {
                 Some(match seated.retire_rescued(&self.table) {
                     Ok(()) => Ok(()),
                     Err(RetireFault::NotLeaving) => Err(RingRetireFault::NotLeaving),

@@ -1,5 +1,5 @@
 //! Slots for nodes and inboxes for callers, over one table.
-ghost use Rattle.std.specs.Prelude.{◌≡◌, ◌<◌, ◌≤◌, [], true, Ok, None, Contains, IfOk, IfErr, OnErr, IfSome, vec_len};
+ghost use Rattle.std.specs.Prelude.{◌≡◌, ◌<◌, ◌≤◌, [], Contains, IfOk, IfErr, OnErr, IfSome, vec_len};
 ghost use Rattle.chord_caller.specs.Answers.{new_caller};
 ghost use Rattle.chord_caller.specs.Client.{IsCoreOf};
 ghost use Rattle.chord_live_ring.specs.Sights.{IsPageShown, IsSightOf};
@@ -36,8 +36,10 @@ pub struct Ring<J: Naming, S: EntryStore> {
     pub(crate) register: Mutex<Register<J>>,
     /// The links of all members, filled while a departure is judged. Locked behind the register.
     pub(crate) board: Mutex<Board<J>>,
-    /// How many nodes were admitted.
+    /// How many nodes were ever admitted.
     pub(crate) nodes: AtomicU64,
+    /// How often those passed requests on whose slots were used again.
+    pub(crate) past_forwards: AtomicU64,
     pub(crate) slots: Vec<Slot<J, S>>,
     pub(crate) inboxes: Vec<Inbox<J>>,
     /// How many of the next waits skip polling.
@@ -65,30 +67,95 @@ impl<J: Naming, S: EntryStore> Model for Ring<J, S> {
 }
 
 impl<J: Naming, S: EntryStore> Ring<J, S> {
-    /// Whether a node of this number was admitted.
-    pub fn was_admitted(&self, number: u64) -> bool
-        ensures { result ≡ true → number < J.name.slots }
-    {
-        number < self.nodes.load(Ordering::SeqCst) && number < self.slots.len() as u64
+    /// Whether a node of this number was ever admitted.
+    pub fn was_admitted(&self, number: u64) -> bool {
+        number < self.node_count()
     }
 
-    /// How many nodes were admitted. Their numbers are those below.
-    pub fn node_count(&self) -> u64
-        ensures { result ≤ J.name.slots }
-    {
-        self.nodes.load(Ordering::SeqCst).min(self.slot_count())
+    /// Whether a node of this number has a slot: it was admitted, and if it is gone, its slot was
+    /// not used again.
+    pub fn has_slot(&self, number: u64) -> bool {
+        self.slot_of(number).is_some()
     }
 
-    /// How many nodes there may ever be.
-    pub(crate) fn slot_count(&self) -> u64
+    /// How many nodes were ever admitted. Their numbers are those below.
+    pub fn node_count(&self) -> u64 {
+        self.nodes.load(Ordering::SeqCst)
+    }
+
+    /// How often those nodes passed requests on that are gone and have no slot any more.
+    pub fn past_forwards(&self) -> u64 {
+        self.past_forwards.load(Ordering::SeqCst)
+    }
+
+    /// How many nodes there may be at once.
+    pub fn slot_count(&self) -> u64
         ensures { result ≡ J.name.slots }
     {
         self.slots.len() as u64
     }
 
+    /// The number of the node in a slot; None if it is vacant.
+    pub fn number_at(&self, slot: u64) -> Option<u64> {
+        let number = &self.slots.get(slot as usize)?.number;
+        number.load(Ordering::SeqCst).checked_sub(1)
+    }
+
+    /// The number of the node in a slot, where nobody asked for it so yet: who does starts its
+    /// worker. One thread asks at a time.
+    pub fn without_worker(&self, slot: u64) -> Option<u64> {
+        let slot = self.slots.get(slot as usize)?;
+        let marked = slot.number.load(Ordering::SeqCst);
+        if slot.worker.load(Ordering::SeqCst) == marked {
+            return None;
+        }
+        slot.worker.store(marked, Ordering::SeqCst);
+        marked.checked_sub(1)
+    }
+
+    /// The index of the first slot that is marked so, from the one of this number modulo their
+    /// count on. A slot is marked by its node's number and 1 more, a vacant one by 0.
+    fn find_slot(&self, number: u64, marked: u64) -> Option<usize>
+        ensures { IfSome result (λ index. index < J.name.slots) }
+    {
+        let count = self.slot_count();
+        for step in 0..count {
+            let index = (number.wrapping_add(step) % count) as usize;
+            if let Some(slot) = self.slots.get(index) {
+                if slot.number.load(Ordering::SeqCst) == marked {
+                    return Some(index);
+                }
+            }
+        }
+        None
+    }
+
+    /// The index of the slot of the node of this number. It may be another node's by the time that
+    /// it is locked: then that has another number.
+    pub(crate) fn index_of(&self, number: u64) -> Option<usize>
+        ensures { IfSome result (λ index. index < J.name.slots) }
+    {
+        match number.checked_add(1) {
+            Some(marked) => self.find_slot(number, marked),
+            None => None,
+        }
+    }
+
+    /// The index of a vacant slot, where the node of this number is found soonest.
+    pub(crate) fn vacant_for(&self, number: u64) -> Option<usize>
+        ensures { IfSome result (λ index. index < J.name.slots) }
+    {
+        self.find_slot(number, 0)
+    }
+
+    /// The slot of the node of this number, as `index_of` finds it.
+    pub(crate) fn slot_of(&self, number: u64) -> Option<&Slot<J, S>> {
+        self.slots.get(self.index_of(number)?)
+    }
+
     /// Whether the node of this number is a member.
     pub fn is_live(&self, number: u64) -> bool {
-        match self.slots.get(number as usize) {
+        match self.slot_of(number) {
             Some(slot) => slot.live.load(Ordering::SeqCst),
             None => false,
         }
@@ -135,7 +202,7 @@ impl<J: Naming, S: EntryStore> Ring<J, S> {
     pub fn links_of(&self, rt: &impl Wait, number: u64) -> Option<Links>
         ensures { IfSome result (λ links. links.me.number ≡ number) }
     {
-        let slot = self.slots.get(number as usize)?;
+        let slot = self.slot_of(number)?;
         match &*slot.state.lock(rt) {
             SlotState::Here(seated)
                 if !seated.has_crashed() && seated.links().me().number == number => {
@@ -147,19 +214,15 @@ impl<J: Naming, S: EntryStore> Ring<J, S> {
 
     /// The phase of a node that acts; one that is rescued is leaving. None if there is no such
     /// node, or if it crashed and is not rescued.
-    pub fn phase_of(&self, rt: &impl Wait, number: u64) -> Option<Phase>
-        ensures { J.name.slots ≤ number → result ≡ None }
-    {
-        let Some(slot) = self.slots.get(number as usize) else {
-            return None;
-        };
+    pub fn phase_of(&self, rt: &impl Wait, number: u64) -> Option<Phase> {
+        let slot = self.slot_of(number)?;
         match &*slot.state.lock(rt) {
-            SlotState::Here(seated) => Some(seated.phase()),
+            SlotState::Here(seated) if seated.number() == number => Some(seated.phase()),
             _ => None,
         }
     }
 
-    /// How a node looks, by one look under its lock. None if no node of this number was admitted.
+    /// How a node looks, by one look under its lock. None if no node of this number has a slot.
     pub fn sight(
         &self,
         rt: &impl Wait,
@@ -167,9 +230,8 @@ impl<J: Naming, S: EntryStore> Ring<J, S> {
         number: u64,
     ) -> Result<Option<NodeSight>, AllocError>
         ensures shown { IfOk result (λ found. IfSome found (IsSightOf number)) }
-        ensures beyond { J.name.slots ≤ number → result ≡ Ok None }
     {
-        let Some(slot) = self.slots.get(number as usize) else {
+        let Some(slot) = self.slot_of(number) else {
             return Ok(None);
         };
         match slot.state.lock(rt).sight(&self.table, alloc)? {
@@ -181,15 +243,17 @@ impl<J: Naming, S: EntryStore> Ring<J, S> {
     /// The node of this number if it holds the identifier, else its first handover of it, if its
     /// outbox has one. A node that crashed still has what it had. A handover stays in the outbox
     /// until its giver hears that it was taken; by then its receiver may hold the identifier.
-    pub fn holding(&self, rt: &impl Wait, number: u64, id: Id) -> Option<Holder>
-        ensures { J.name.slots ≤ number → result ≡ None }
-    {
-        let slot = self.slots.get(number as usize)?;
-        slot.state.lock(rt).holding(id)
+    pub fn holding(&self, rt: &impl Wait, number: u64, id: Id) -> Option<Holder> {
+        let guard = self.slot_of(number)?.state.lock(rt);
+        if guard.has(number) {
+            guard.holding(id)
+        } else {
+            None
+        }
     }
 
     /// A page of the pairs of the node of this number from an identifier on, by one look under its
-    /// lock, if the node holds that. None if no node of this number was admitted, or if it crashed.
+    /// lock, if the node holds that. None if no node of this number has a slot, or if it crashed.
     pub fn pairs_from(
         &self,
         rt: &impl Wait,
@@ -200,9 +264,8 @@ impl<J: Naming, S: EntryStore> Ring<J, S> {
     ) -> Result<Option<PairsPage>, AllocError>
         requires { 0 < limit }
         ensures shown { IfOk result (λ found. IfSome found (IsPageShown number first limit)) }
-        ensures beyond { J.name.slots ≤ number → result ≡ Ok None }
     {
-        let Some(slot) = self.slots.get(number as usize) else {
+        let Some(slot) = self.slot_of(number) else {
             return Ok(None);
         };
         slot.state
@@ -210,18 +273,23 @@ impl<J: Naming, S: EntryStore> Ring<J, S> {
             .pairs_from(&self.table, alloc, number, first, limit)
     }
 
-    /// Puts a node into its slot.
-    fn fill_slot(&self, rt: &impl Wait, number: usize, seated: SeatedNode<J, S>)
-        requires { number < J.name.slots }
+    /// Puts a node into a slot, which is vacant.
+    fn fill_slot(&self, rt: &impl Wait, index: usize, seated: SeatedNode<J, S>)
+        requires { index < J.name.slots }
     {
-        let slot = &self.slots[number];
+        let slot = &self.slots[index];
+        let marked = seated.number().wrapping_add(1);
         drop(std::mem::replace(&mut *slot.state.lock(rt), SlotState::Here(seated)));
+        slot.again_item.store(0, Ordering::SeqCst);
+        slot.again_part.store(1, Ordering::SeqCst);
+        slot.number.store(marked, Ordering::SeqCst);
         slot.live.store(true, Ordering::SeqCst);
-        self.nodes.store(number as u64 + 1, Ordering::SeqCst);
+        self.nodes.store(marked, Ordering::SeqCst);
         self.stir(rt);
     }
 
     /// Admits the first node, or gives the store back.
+    #[tactic(auto, using(crate::proofs::Departures::out_same))]
     pub fn create(&self, rt: &impl Wait, id: Id, store: S) -> Result<Peer, (CreateFault, S)>
         requires vacant { S.content store ≡ [] }
         ensures peer { IfOk result (λ peer. peer ≡ record { number = 0; id = id }) }
@@ -232,10 +300,17 @@ impl<J: Naming, S: EntryStore> Ring<J, S> {
         if self.is_stopped() {
             return Err((CreateFault::Stopped, store));
         }
-        if numbers.nodes() != 0 || !numbers.has_slot() {
+        if numbers.nodes() != 0 || self.slots.is_empty() {
             return Err((CreateFault::AlreadyCreated, store));
         }
-        match numbers.create(&self.table, self.alloc, id, self.settings.successors, store) {
+        match numbers.create(
+            &self.table,
+            0,
+            self.alloc,
+            id,
+            self.settings.successors,
+            store,
+        ) {
             Ok((node, seat)) => {
                 self.fill_slot(rt, 0, SeatedNode::new(node, seat));
                 Ok(Peer { number: 0, id })
@@ -247,7 +322,7 @@ impl<J: Naming, S: EntryStore> Ring<J, S> {
     /// The number of the node that comes before an identifier on the circle, as a lookup from
     /// `via` finds it.
     fn node_before(&self, rt: &impl Wait, id: Id, via: u64) -> Result<u64, JoinFault> {
-        if !self.was_admitted(via) {
+        if !self.has_slot(via) {
             return Err(JoinFault::NoSuchNode);
         }
         let reader = RingReader { ring: self, rt };
@@ -257,17 +332,18 @@ impl<J: Naming, S: EntryStore> Ring<J, S> {
         }
     }
 
-    /// Admits a node behind this one, under that one's lock, or gives the store back.
+    /// Admits a node to a slot behind this one, under that one's lock, or gives the store back.
     fn admit_behind(
         &self,
         rt: &impl Wait,
         numbers: &mut Numbers<J>,
+        index: usize,
         before: u64,
         me: Peer,
         store: S,
     ) -> Result<SeatedNode<J, S>, (JoinFault, S)>
         requires some { 0 < numbers.old.nodes }
-        requires slot { numbers.old.nodes < J.name.slots }
+        requires slot { index < J.name.slots }
         requires next { me.number ≡ numbers.old.nodes }
         requires unused { ¬ Contains numbers.old.ids me.id }
         requires vacant { S.content store ≡ [] }
@@ -275,31 +351,35 @@ impl<J: Naming, S: EntryStore> Ring<J, S> {
         ensures back { IfErr result (λ refused. refused.1 ≡ store) }
         ensures same { OnErr result (numbers.new ≡ numbers.old) }
     {
-        let Some(slot) = self.slots.get(before as usize) else {
+        let Some(slot) = self.slot_of(before) else {
             return Err((JoinFault::Unsettled, store));
         };
         match &mut *slot.state.lock(rt) {
-            SlotState::Here(pred) => pred.admit_behind(numbers, &self.table, self.alloc, me, store),
+            SlotState::Here(pred) if pred.number() == before => {
+                pred.admit_behind(numbers, &self.table, index, self.alloc, me, store)
+            }
             _ => Err((JoinFault::Unsettled, store)),
         }
     }
 
     /// Admits a later node, after the one that a lookup from `via` finds before it, or gives the
-    /// store back. It joins under that one's lock, as that one's links are then.
+    /// store back. It joins under that one's lock, as that one's links are then, and gets a slot
+    /// that is vacant, or that of a node that is gone.
+    #[tactic(auto, using(crate::proofs::Departures::out_same))]
     pub fn join(&self, rt: &impl Wait, id: Id, via: u64, store: S) -> Result<Peer, (JoinFault, S)>
         requires vacant { S.content store ≡ [] }
         ensures back { IfErr result (λ refused. refused.1 ≡ store) }
         ensures named { IfOk result (λ peer. peer.id ≡ id) }
-        ensures numbered { IfOk result (λ peer. (1 ≤ peer.number) × (peer.number < J.name.slots)) }
+        ensures numbered { IfOk result (λ peer. 1 ≤ peer.number) }
     {
         let mut register = self.register.lock(rt);
         let numbers = &mut register.numbers;
         if self.is_stopped() {
             return Err((JoinFault::Stopped, store));
         }
-        if !numbers.has_slot() {
+        let Some(index) = self.slot_for(rt, numbers) else {
             return Err((JoinFault::NoSlot, store));
-        }
+        };
         if numbers.is_taken(id) {
             return Err((JoinFault::IdTaken, store));
         }
@@ -315,21 +395,18 @@ impl<J: Naming, S: EntryStore> Ring<J, S> {
             Ok(before) => before,
             Err(fault) => return Err((fault, store)),
         };
-        let seated = self.admit_behind(rt, numbers, before, me, store)?;
-        self.fill_slot(rt, number, seated);
+        let seated = self.admit_behind(rt, numbers, index, before, me, store)?;
+        self.fill_slot(rt, index, seated);
         Ok(me)
     }
 
     /// Makes a node begin to leave.
     pub fn leave(&self, rt: &impl Wait, number: u64) -> Result<(), LeaveFault> {
-        if !self.was_admitted(number) {
-            return Err(LeaveFault::NoSuchNode);
-        }
-        let Some(slot) = self.slots.get(number as usize) else {
+        let Some(slot) = self.slot_of(number) else {
             return Err(LeaveFault::NoSuchNode);
         };
         let begun = match &mut *slot.state.lock(rt) {
-            SlotState::Here(seated) => seated
+            SlotState::Here(seated) if seated.number() == number => seated
                 .begin_leave(&self.table)
                 .map_err(|_| LeaveFault::NotStaying),
             _ => Err(LeaveFault::NotStaying),
@@ -342,6 +419,7 @@ impl<J: Naming, S: EntryStore> Ring<J, S> {
 
     /// A caller under the next free number, with a window of 1 to 16 requests, and the seat that
     /// shows it.
+    #[tactic(auto, using(crate::proofs::Departures::out_same))]
     pub fn admit_caller(
         &self,
         rt: &impl Wait,
@@ -367,6 +445,7 @@ impl<J: Naming, S: EntryStore> Ring<J, S> {
 
     /// The core of a client under the next free number, with a window of 1 to 16 requests, and the
     /// seat that shows its caller. The core has room for its window, and takes no more memory.
+    #[tactic(auto, using(crate::proofs::Departures::out_same))]
     pub fn admit_client(
         &self,
         rt: &impl Wait,

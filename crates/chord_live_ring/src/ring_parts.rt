@@ -55,6 +55,7 @@ impl RingParts {
     }
 
     /// Gives the ring its name.
+    #[tactic(auto, using(crate::proofs::Departures::none_out))]
     pub fn assemble<J: Naming, S: EntryStore>(self) -> Result<Ring<J, S>, AllocError>
         requires { self.name ≡ J.name }
         ensures { IfOk result (λ ring. ring ≡ self.settings) }
@@ -68,7 +69,7 @@ impl RingParts {
         let inboxes = empty_inboxes(alloc, settings.callers)?;
         let board = Board::new(alloc, settings.slots)?;
         let (table, registrar) = table.assemble::<J>();
-        let numbers = Numbers::new(alloc, registrar, settings.slots, settings.callers);
+        let numbers = Numbers::new(alloc, registrar, settings.callers);
         Ok(Ring {
             alloc,
             settings,
@@ -76,6 +77,7 @@ impl RingParts {
             register: Mutex::new(Register { numbers }),
             board: Mutex::new(board),
             nodes: AtomicU64::new(0),
+            past_forwards: AtomicU64::new(0),
             slots,
             inboxes,
             polls_to_skip: AtomicU64::new(0),
@@ -100,7 +102,9 @@ fn vacant_slots<J: Naming, S: EntryStore>(
         let (inbox, envelopes) = crossbeam_channel::unbounded(alloc)?;
         slots.push(Slot {
             state: Mutex::new(SlotState::Vacant),
+            number: AtomicU64::new(0),
             live: AtomicBool::new(false),
+            worker: AtomicU64::new(0),
             ticks: AtomicU64::new(0),
             again_item: AtomicU64::new(0),
             again_part: AtomicU64::new(1),

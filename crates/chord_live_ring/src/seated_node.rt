@@ -91,18 +91,19 @@ impl<J: Naming, S: EntryStore> SeatedNode<J, S> {
         }
     }
 
-    /// Admits a new node behind this one, or gives the store back: this one has to be a member, and
-    /// the new one to lie before its first entry.
+    /// Admits a new node to a slot behind this one, or gives the store back: this one has to be a
+    /// member, and the new one to lie before its first entry.
     pub fn admit_behind(
         &mut self,
         numbers: &mut Numbers<J>,
         table: &Shared<J>,
+        slot: usize,
         alloc: Global,
         me: Peer,
         store: S,
     ) -> Result<SeatedNode<J, S>, (JoinFault, S)>
         requires some { 0 < numbers.old.nodes }
-        requires slot { numbers.old.nodes < J.name.slots }
+        requires slot { slot < J.name.slots }
         requires next { me.number ≡ numbers.old.nodes }
         requires unused { ¬ Contains numbers.old.ids me.id }
         requires vacant { S.content store ≡ [] }
@@ -121,7 +122,7 @@ impl<J: Naming, S: EntryStore> SeatedNode<J, S> {
         let Some(seat) = &mut self.seat else {
             unreachable!()
         };
-        match numbers.join(table, alloc, links, seat, store) {
+        match numbers.join(table, slot, alloc, links, seat, store) {
             Ok((node, seat)) => Ok(SeatedNode::new(node, seat)),
             Err(store) => Err((JoinFault::Memory, store)),
         }

@@ -1,15 +1,17 @@
 //! Slots of nodes.
-ghost use Rattle.std.specs.Prelude.{◌≡◌, ◌≢◌, ◌<◌, [], false, true, Ok, None, IfOk, IfSome};
+ghost use Rattle.std.specs.Prelude.{◌≡◌, ◌≢◌, ◌↔◌, ◌<◌, [], false, true, Ok, None, IfOk, IfSome};
 ghost use Rattle.chord_live_ring.specs.declared.slot.SlotState.TheVariants.{Vacant, Here, Crashed};
 ghost use Rattle.chord_live_ring.specs.SeatedCalls.{rescued, with_links};
 ghost use Rattle.chord_live_ring.specs.Sights.{HoldingIs, IsPageShown, IsSightOf, SightIs};
+ghost use Rattle.chord_live_steps.specs.Pieces.{GivesToIs};
+ghost use Rattle.chord_model.specs.declared.phase.Phase.TheVariants.{Gone};
 ghost use Rattle.chord_node.specs.Pages.{PairsFromIs};
 
 use crate::seated_node::SeatedNode;
 use chord_ident::Id;
 use chord_links::Peer;
 use chord_live_steps::Numbers;
-use chord_node::{Holder, PairsPage};
+use chord_node::{Holder, PairsPage, Phase};
 use chord_sight::NodeSight;
 use chord_store::EntryStore;
 use chord_table::{Envelope, Naming, Shared};
@@ -21,7 +23,7 @@ use std::sync::atomic::{AtomicBool, AtomicU64};
 /// The state of a slot.
 #[derive(Drop)]
 pub enum SlotState<J: Naming, S: EntryStore> {
-    /// No node was admitted.
+    /// There is no node, or no more: the one that was there is gone.
     Vacant,
     /// The node acts. One that crashed does so while it is rescued, as no member.
     Here(SeatedNode<J, S>),
@@ -45,6 +47,53 @@ pub enum LinkStep {
 }
 
 impl<J: Naming, S: EntryStore> SlotState<J, S> {
+    /// Whether the slot has the node of this number.
+    pub fn has(&self, number: u64) -> bool
+        ensures vacant { self.now ≡ Vacant → result ≡ false }
+        ensures here { (seated : _) → self.now ≡ Here seated → (result ≡ true) ↔ (seated.node.number ≡ number) }
+        ensures crashed { (seated : _) → self.now ≡ Crashed seated → (result ≡ true) ↔ (seated.node.number ≡ number) }
+    {
+        match self {
+            SlotState::Vacant => false,
+            SlotState::Here(seated) | SlotState::Crashed(seated) => seated.number() == number,
+        }
+    }
+
+    /// Whether the slot has the node of this number, and it acts and is not gone.
+    pub fn takes(&self, number: u64) -> bool
+        ensures yes { result ≡ true → (seated : _) × (self.now ≡ Here seated) × (seated.node.number ≡ number) × (seated.node.phase ≢ Gone) }
+        ensures here { (seated : _) → self.now ≡ Here seated → seated.node.number ≡ number → seated.node.phase ≢ Gone → result ≡ true }
+    {
+        match self {
+            SlotState::Here(seated) => seated.number() == number && seated.phase() != Phase::Gone,
+            SlotState::Vacant | SlotState::Crashed(_) => false,
+        }
+    }
+
+    /// Whether the slot has the node of this number, and it is gone.
+    pub fn is_gone(&self, number: u64) -> bool
+        ensures yes { result ≡ true → (seated : _) × (self.now ≡ Here seated) × (seated.node.number ≡ number) × (seated.node.phase ≡ Gone) }
+        ensures here { (seated : _) → self.now ≡ Here seated → seated.node.number ≡ number → seated.node.phase ≡ Gone → result ≡ true }
+    {
+        match self {
+            SlotState::Here(seated) => seated.number() == number && seated.phase() == Phase::Gone,
+            SlotState::Vacant | SlotState::Crashed(_) => false,
+        }
+    }
+
+    /// Whether the node in the slot, which may have crashed, hands something over to the node of
+    /// this number.
+    pub fn gives_to(&self, number: u64) -> bool
+        ensures vacant { self.now ≡ Vacant → result ≡ false }
+        ensures here { (seated : _) → self.now ≡ Here seated → GivesToIs number seated.node.outbox result }
+        ensures crashed { (seated : _) → self.now ≡ Crashed seated → GivesToIs number seated.node.outbox result }
+    {
+        match self {
+            SlotState::Vacant => false,
+            SlotState::Here(seated) | SlotState::Crashed(seated) => seated.gives_to(number),
+        }
+    }
+
     /// The slot after its node, if it has one that did not crash, crashed by force.
     pub fn crashed_by_force(self, numbers: &mut Numbers<J>, table: &Shared<J>) -> SlotState<J, S>
         ensures live { (seated : _) → self ≡ Here seated → seated.crashed ≡ false
@@ -142,7 +191,7 @@ impl<J: Naming, S: EntryStore> SlotState<J, S> {
         }
     }
 
-    /// How the node in the slot looks now; None if no node was admitted.
+    /// How the node in the slot looks now; None if it has none.
     pub fn sight(
         &mut self,
         table: &Shared<J>,
@@ -202,8 +251,13 @@ impl<J: Naming, S: EntryStore> SlotState<J, S> {
 #[derive(Drop)]
 pub struct Slot<J: Naming, S: EntryStore> {
     pub(crate) state: Mutex<SlotState<J, S>>,
+    /// The number of the node, and 1 more; 0 where the slot is vacant. It is changed under the
+    /// register's lock. Who has not the slot's own lock takes it for a hint.
+    pub(crate) number: AtomicU64,
     /// Whether the node is a member: it was admitted, and has neither retired nor crashed.
     pub(crate) live: AtomicBool,
+    /// The number, and 1 more, of the node whose worker was asked for; 0 for none.
+    pub(crate) worker: AtomicU64,
     /// How many ticks there were, modulo 128.
     pub(crate) ticks: AtomicU64,
     /// The index of the outbox item that is sent again next.

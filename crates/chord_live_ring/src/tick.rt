@@ -1,6 +1,5 @@
 //! The upkeep of nodes.
-ghost use Rattle.std.specs.Prelude.{◌≡◌, ◌≤◌, Err};
-ghost use Rattle.chord_live_types.specs.declared.ring.TickFault.TheVariants.{NoSuchNode};
+ghost use Rattle.std.specs.Prelude.{◌≤◌};
 
 use crate::reader::RingReader;
 use crate::ring::Ring;
@@ -32,32 +31,38 @@ enum NextMove {
 }
 
 impl<J: Naming, S: EntryStore> Ring<J, S> {
-    /// A node takes a step of the ring beside another one, under both nodes' locks, the lower number
+    /// A node takes a step of the ring beside another one, under both nodes' locks, the lower slot
     /// first. Gives the candidate that a stabilisation finds.
     fn beside(&self, rt: &impl Wait, number: u64, other: u64, step: LinkStep) -> Option<Peer> {
-        let mine = self.slots.get(number as usize)?;
-        let theirs = self.slots.get(other as usize)?;
-        if number == other {
+        let mine = self.index_of(number)?;
+        let theirs = self.index_of(other)?;
+        let (own, beside) = (&self.slots[mine].state, &self.slots[theirs].state);
+        if mine == theirs {
             return None;
         }
-        if number < other {
-            let mut mine = mine.state.lock(rt);
-            let mut theirs = theirs.state.lock(rt);
-            mine.step_beside(&self.table, &mut *theirs, step)
+        if mine < theirs {
+            let mut own = own.lock(rt);
+            let mut beside = beside.lock(rt);
+            if own.has(number) && beside.has(other) {
+                return own.step_beside(&self.table, &mut *beside, step);
+            }
         } else {
-            let mut theirs = theirs.state.lock(rt);
-            let mut mine = mine.state.lock(rt);
-            mine.step_beside(&self.table, &mut *theirs, step)
+            let mut beside = beside.lock(rt);
+            let mut own = own.lock(rt);
+            if own.has(number) && beside.has(other) {
+                return own.step_beside(&self.table, &mut *beside, step);
+            }
         }
+        None
     }
 
     /// A node that has no predecessor, and is its own first entry, is its own predecessor.
     fn stand_alone(&self, rt: &impl Wait, number: u64) {
-        let Some(slot) = self.slots.get(number as usize) else {
+        let Some(slot) = self.slot_of(number) else {
             return;
         };
         if let SlotState::Here(seated) = &mut *slot.state.lock(rt) {
-            if seated.is_member() {
+            if seated.number() == number && seated.is_member() {
                 let _ = seated.stand_alone(&self.table);
             }
         }
@@ -112,7 +117,7 @@ impl<J: Naming, S: EntryStore> Ring<J, S> {
     /// Updates the next finger; a node has one updated at each tick.
     fn maintain_finger(&self, rt: &impl Wait, links: &Links) {
         let me = links.me();
-        let Some(slot) = self.slots.get(me.number as usize) else {
+        let Some(slot) = self.slot_of(me.number) else {
             return;
         };
         let earlier = slot.ticks.load(Ordering::SeqCst) % FINGERS;
@@ -129,11 +134,13 @@ impl<J: Naming, S: EntryStore> Ring<J, S> {
         requires low { 1 ≤ finger }
         requires high { finger ≤ 128 }
     {
-        let Some(slot) = self.slots.get(number as usize) else {
+        let Some(slot) = self.slot_of(number) else {
             return;
         };
         if let SlotState::Here(seated) = &mut *slot.state.lock(rt) {
-            seated.set_finger(&self.table, finger, to);
+            if seated.number() == number {
+                seated.set_finger(&self.table, finger, to);
+            }
         }
     }
 
@@ -169,11 +176,11 @@ impl<J: Naming, S: EntryStore> Ring<J, S> {
     }
 
     fn tidy_at(&self, rt: &impl Wait, number: u64) -> Result<NextMove, AllocError> {
-        let Some(slot) = self.slots.get(number as usize) else {
+        let Some(slot) = self.slot_of(number) else {
             return Ok(NextMove::Done);
         };
         match &mut *slot.state.lock(rt) {
-            SlotState::Here(seated) => self.tidy_seated(seated),
+            SlotState::Here(seated) if seated.number() == number => self.tidy_seated(seated),
             _ => Ok(NextMove::Done),
         }
     }
@@ -201,11 +208,11 @@ impl<J: Naming, S: EntryStore> Ring<J, S> {
 
     /// Joins two held segments of a node that adjoin.
     fn join_segments(&self, rt: &impl Wait, number: u64) -> Result<Round, AllocError> {
-        let Some(slot) = self.slots.get(number as usize) else {
+        let Some(slot) = self.slot_of(number) else {
             return Ok(Round::Quiet);
         };
         match &mut *slot.state.lock(rt) {
-            SlotState::Here(seated) => self.join_seated(seated),
+            SlotState::Here(seated) if seated.number() == number => self.join_seated(seated),
             _ => Ok(Round::Quiet),
         }
     }
@@ -230,21 +237,21 @@ impl<J: Naming, S: EntryStore> Ring<J, S> {
 
     /// Counts a round of upkeep of a node.
     fn count_tick(&self, rt: &impl Wait, number: u64) {
-        let Some(slot) = self.slots.get(number as usize) else {
+        let Some(slot) = self.slot_of(number) else {
             return;
         };
         if let SlotState::Here(seated) = &mut *slot.state.lock(rt) {
-            seated.count_tick();
+            if seated.number() == number {
+                seated.count_tick();
+            }
         }
     }
 
     /// Does one round of upkeep of a node. Out of memory ends it early; the steps done so far stay.
     /// A node that is no member any more takes in the envelopes that wait for it: it declines old
     /// handovers and passes requests on. Where it is rescued it hands over what it holds.
-    pub fn tick(&self, rt: &impl Wait, number: u64) -> Result<Round, TickFault>
-        ensures { J.name.slots ≤ number → result ≡ Err NoSuchNode }
-    {
-        if !self.was_admitted(number) {
+    pub fn tick(&self, rt: &impl Wait, number: u64) -> Result<Round, TickFault> {
+        if !self.has_slot(number) {
             return Err(TickFault::NoSuchNode);
         }
         if self.is_stopped() {

@@ -35,12 +35,12 @@ impl<J: Naming, S: EntryStore> Ring<J, S> {
         probe: &impl Probe,
         keyed: Keyed<J>,
     ) -> Option<(Target, Keyed<J>)> {
-        let Some(slot) = self.slots.get(number as usize) else {
+        let Some(slot) = self.slot_of(number) else {
             drop(keyed);
             return None;
         };
         match &mut *lock_soon(rt, &slot.state) {
-            SlotState::Here(seated) => {
+            SlotState::Here(seated) if seated.number() == number => {
                 let sent = self.answer_of(rt, seated, keyed);
                 probe.pass(number);
                 sent
@@ -55,7 +55,7 @@ impl<J: Naming, S: EntryStore> Ring<J, S> {
     /// The inbox of the target, if there is such a node or caller.
     fn inbox_of(&self, target: Target) -> Option<&Sender<Envelope<J>, Global>> {
         match target {
-            Target::Node(number) => match self.slots.get(number as usize) {
+            Target::Node(number) => match self.slot_of(number) {
                 Some(slot) => Some(&slot.inbox),
                 None => None,
             },
@@ -89,10 +89,7 @@ impl<J: Naming, S: EntryStore> Ring<J, S> {
         number: u64,
         probe: &G,
     ) -> Result<(), NoSuchNode> {
-        if !self.was_admitted(number) {
-            return Err(NoSuchNode);
-        }
-        let Some(slot) = self.slots.get(number as usize) else {
+        let Some(slot) = self.slot_of(number) else {
             return Err(NoSuchNode);
         };
         let mut wakes = Wakes::AtOnce;
@@ -112,7 +109,7 @@ impl<J: Naming, S: EntryStore> Ring<J, S> {
     /// A node that is no member any more takes in the envelopes that wait for it: it declines old
     /// handovers and passes requests on. Where it crashed they are lost.
     pub(crate) fn take_in_waiting(&self, rt: &impl Wait, number: u64) {
-        let Some(slot) = self.slots.get(number as usize) else {
+        let Some(slot) = self.slot_of(number) else {
             return;
         };
         for _ in 0..MOST_WAITING {
@@ -123,17 +120,18 @@ impl<J: Naming, S: EntryStore> Ring<J, S> {
         }
     }
 
-    /// The first live node from this one on, in the order of their numbers and then from node 0 on.
-    /// This one itself if none is live.
+    /// The first live node from this one on, in the order of the slots and then from the first slot
+    /// on. This one itself if none is live.
     pub(crate) fn live_from(&self, number: u64) -> u64 {
         if self.is_live(number) {
             return number;
         }
-        let nodes = self.nodes.load(Ordering::SeqCst);
-        for step in 0..nodes {
-            let node = number.wrapping_add(step) % nodes;
-            if self.is_live(node) {
-                return node;
+        let count = self.slot_count();
+        for step in 0..count {
+            if let Some(node) = self.number_at(number.wrapping_add(step) % count) {
+                if self.is_live(node) {
+                    return node;
+                }
             }
         }
         number

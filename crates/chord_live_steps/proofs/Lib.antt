@@ -5,3 +5,4 @@ pub mod Sending
 pub mod Submitting
 pub mod Waiting
 pub mod GivingUp
+pub mod Judging

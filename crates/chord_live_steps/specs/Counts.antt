@@ -15,5 +15,6 @@ pub record Counts : Type 0 where
   pub ids : List Id
   -- whether the ring allowed each crash
   pub premise : Bool
-  -- what the seats of nodes show that were taken in for a departure
+  -- what the seats show that were taken in: those of nodes that are gone for good, and those of the
+  -- others for a departure
   pub taken : List Sight

@@ -1,5 +1,5 @@
 //! The numbers of nodes and callers.
-ghost use Rattle.std.specs.Prelude.{◌≡◌, ◌≢◌, ◌↔◌, ◌++◌, ◌∷◌, IsTrue, Contains, ◌+◌, ◌<◌, ◌≤◌, [], false, true, IfOk, IfErr, OnOk, OnErr, IfSome, Err, None};
+ghost use Rattle.std.specs.Prelude.{◌≡◌, ◌≢◌, ◌↔◌, ◌++◌, ◌∷◌, IsTrue, Contains, ◌+◌, ◌<◌, ◌≤◌, [], false, true, length, IfOk, IfErr, OnOk, OnErr, IfSome, Err, None};
 ghost use Rattle.chord_caller.specs.Answers.{new_caller};
 ghost use Rattle.chord_caller.specs.Client.{IsCoreOf};
 ghost use Rattle.chord_ident.specs.Circle.{IsBetween};
@@ -9,6 +9,7 @@ ghost use Rattle.chord_ring.specs.Steps.{joined_links};
 ghost use Rattle.chord_live_types.specs.declared.caller.OpenClientFault.TheVariants.{CallersSpent, Memory};
 ghost use Rattle.chord_live_steps.specs.Counts.{numbers_below};
 ghost use Rattle.chord_model.specs.Node.{founder, newborn};
+ghost use Rattle.chord_table.specs.Views.{nodes_among};
 
 use chord_caller::{CallerCore, ClientCore};
 use chord_ident::Id;
@@ -21,38 +22,38 @@ use std::alloc::Global;
 use std::marker::Model;
 
 /// The next free numbers, with the registrar that admitted all below them. Contracts see how many
-/// nodes and callers there are, the identifiers of the nodes, whether the ring allowed each crash,
-/// and what the seats of nodes show that were taken in.
+/// nodes and callers there ever were, the identifiers of the nodes, whether the ring allowed each
+/// crash, and what the seats show that were taken in.
 #[derive(Drop)]
 pub struct Numbers<J: Naming> {
     pub(crate) registrar: Registrar<J>,
-    /// The identifiers of the nodes.
-    ids: Vec<Id>,
-    pub(crate) nodes: usize,
+    /// The identifiers of the nodes, by number.
+    pub(crate) ids: Vec<Id>,
+    /// How many nodes' seats the registrar has.
+    pub(crate) held: usize,
     callers: usize,
-    slots: usize,
     places: usize,
     /// Whether the ring allowed each crash.
     pub(crate) premise: bool,
 }
 
 impl<J: Naming> Model for Numbers<J> {
-    ghost use Rattle.std.specs.Prelude.{◌≡◌};
+    ghost use Rattle.std.specs.Prelude.{◌≡◌, length};
     ghost use Rattle.chord_live_steps.specs.Counts.{Counts};
     ghost use Rattle.chord_live_steps.specs.Registered.{IsRegister};
+    ghost use Rattle.chord_table.specs.Views.{nodes_among};
 
     ghost Value = { Counts };
 
-    ghost view = { λ a. record { nodes = a.nodes; callers = a.callers; ids = a.ids.items; premise = a.premise; taken = a.registrar.taken } };
+    ghost view = { λ a. record { nodes = length a.ids.items; callers = a.callers; ids = a.ids.items; premise = a.premise; taken = a.registrar.taken } };
 
-    ghost invariant = { λ a. (a.slots ≡ J.name.slots) × (a.places ≡ J.name.callers)
-        × IsRegister a.nodes a.callers a.ids.items a.premise a.registrar.register };
+    ghost invariant = { λ a. (a.held ≡ length (nodes_among a.registrar.taken)) × (a.places ≡ J.name.callers)
+        × IsRegister a.callers a.ids.items a.premise a.registrar.register };
 }
 
 impl<J: Naming> Numbers<J> {
     /// No number is used yet.
-    pub fn new(alloc: Global, registrar: Registrar<J>, slots: usize, places: usize) -> Numbers<J>
-        requires slots { slots ≡ J.name.slots }
+    pub fn new(alloc: Global, registrar: Registrar<J>, places: usize) -> Numbers<J>
         requires places { places ≡ J.name.callers }
         requires nobody { registrar ≡ record { register = record { nodes = []; callers = []; ids = []; premise = true; principals = [] }; taken = [] } }
         ensures { result ≡ record { nodes = 0; callers = 0; ids = []; premise = true; taken = [] } }
@@ -60,19 +61,25 @@ impl<J: Naming> Numbers<J> {
         Numbers {
             registrar,
             ids: Vec::new(alloc),
-            nodes: 0,
+            held: 0,
             callers: 0,
-            slots,
             places,
             premise: true,
         }
     }
 
-    /// How many nodes there are.
+    /// How many nodes there ever were.
     pub fn nodes(&self) -> usize
         ensures { result ≡ self.now.nodes }
     {
-        self.nodes
+        self.ids.len()
+    }
+
+    /// How many nodes' seats the registrar has.
+    pub fn held(&self) -> usize
+        ensures { result ≡ length (nodes_among self.now.taken) }
+    {
+        self.held
     }
 
     /// How many callers there are.
@@ -99,13 +106,6 @@ impl<J: Naming> Numbers<J> {
         self.premise
     }
 
-    /// Whether there is a free number for a node.
-    pub fn has_slot(&self) -> bool
-        ensures { IsTrue result ↔ self.now.nodes < J.name.slots }
-    {
-        self.nodes < self.slots
-    }
-
     /// Whether a node has the identifier.
     pub fn is_taken(&self, id: Id) -> bool
         ensures { IsTrue result ↔ Contains self.now.ids id }
@@ -113,17 +113,19 @@ impl<J: Naming> Numbers<J> {
         self.ids.iter().any(|taken| *taken == id)
     }
 
-    /// Admits the first node, and gives it with its seat. Gives its store back if out of memory.
+    /// Admits the first node to a slot, and gives it with its seat. Gives its store back if out of
+    /// memory.
     pub fn create<S: EntryStore>(
         &mut self,
         table: &Shared<J>,
+        slot: usize,
         alloc: Global,
         id: Id,
         r: usize,
         store: S,
     ) -> Result<(Node<S>, NodeSeat<J>), S>
         requires none { self.old.nodes ≡ 0 }
-        requires slot { 0 < J.name.slots }
+        requires slot { slot < J.name.slots }
         requires low { 2 ≤ r }
         requires high { r ≤ 16 }
         requires vacant { S.content store ≡ [] }
@@ -138,24 +140,24 @@ impl<J: Naming> Numbers<J> {
         }
         let me = Peer { number: 0, id };
         let node = Node::found(alloc, me, r, store)?;
-        let seat = self.registrar.admit_node(table, 0, &node);
+        let seat = self.registrar.admit_node(table, slot, &node);
         self.ids.push_reserved(id);
-        self.nodes += 1;
         Ok((node, seat))
     }
 
-    /// Admits a later node behind a member, whose seat the caller has, and gives it with its seat.
-    /// Gives its store back if out of memory.
+    /// Admits a later node to a slot, behind a member, whose seat the caller has, and gives it with
+    /// its seat. Gives its store back if out of memory.
     pub fn join<S: EntryStore>(
         &mut self,
         table: &Shared<J>,
+        slot: usize,
         alloc: Global,
         links: Links,
         pred: &mut NodeSeat<J>,
         store: S,
     ) -> Result<(Node<S>, NodeSeat<J>), S>
         requires some { 0 < self.old.nodes }
-        requires slot { self.old.nodes < J.name.slots }
+        requires slot { slot < J.name.slots }
         requires own { links.me.number ≡ self.old.nodes }
         requires unused { ¬ Contains self.old.ids links.me.id }
         requires member { pred.old.crashed ≡ false }
@@ -175,9 +177,8 @@ impl<J: Naming> Numbers<J> {
         }
         let me = links.me();
         let node = Node::newborn(alloc, links, store);
-        let seat = self.registrar.join_node(table, self.nodes, &node, pred);
+        let seat = self.registrar.join_node(table, slot, &node, pred);
         self.ids.push_reserved(me.id);
-        self.nodes += 1;
         Ok((node, seat))
     }
 

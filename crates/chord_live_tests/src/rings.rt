@@ -25,6 +25,7 @@ mod nodes;
 mod numbering;
 mod pieces;
 mod refusals;
+mod retried;
 mod running;
 mod sights;
 mod standing;

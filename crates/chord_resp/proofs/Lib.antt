@@ -2,6 +2,8 @@ pub mod ReadingLaws
 pub mod NumberLaws
 pub mod ShortLines
 pub mod SpellingLaws
+pub mod Keeping
+pub mod QuoteLaws
 pub mod InlineLaws
 pub mod Texts
 pub mod TableLaws

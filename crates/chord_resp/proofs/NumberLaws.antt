@@ -4,6 +4,7 @@ use Rattle.std.specs.Prelude.{decimal}
 use Rattle.std.proofs.lemmas.Bool.{le-ltb, ne_eqb}
 use Rattle.std.proofs.lemmas.Bool.Decides.{nat_tests}
 use Rattle.std.proofs.lemmas.Fmt.{decimal_by_steps, length-decimal-le}
+use Rattle.chord_resp.specs.declared.reading.left.Left.{Left}
 use Rattle.chord_resp.specs.declared.reading.phase.Phase.{Phase}
 use Rattle.chord_resp.specs.declared.reading.phase.Phase.TheVariants as phase
 use Rattle.chord_resp.specs.declared.reading.word.Word.{Word}
@@ -11,8 +12,8 @@ use Rattle.chord_resp.specs.Machine.{State, Outcome, Goes, step, longer}
 use Rattle.chord_resp.specs.Reading.{reading, after}
 
 -- the state in this phase
-abbrev pub at : Phase → ℕ → List Word → List ℕ → State
-at p wanted words partial = record { phase = p; wanted = wanted; words = words; partial = partial }
+abbrev pub at : Phase → Left → List Word → List ℕ → State
+at p left words partial = record { phase = p; left = left; words = words; partial = partial }
 
 pub goes_by : (s t : State) (byte : ℕ) (rest : List ℕ) → step s byte ≡ Goes t → reading s (byte ∷ rest) ≡ reading t rest
 unfolding reading
@@ -30,13 +31,13 @@ has_room k lt = grind (arith, nat_tests)
 
 -- a phase that reads a number up to the most
 pub record ReadsNumber (most : ℕ) (phase_of : ℕ → ℕ → Phase) : Type 0 where
-  pub digit : (k n byte w : ℕ) (ws : List Word) (p : List ℕ) → k < 32 → 48 ≤ byte → byte ≤ 57 → n * 10 + (byte - 48) ≤ most
+  pub digit : (k n byte : ℕ) (w : Left) (ws : List Word) (p : List ℕ) → k < 32 → 48 ≤ byte → byte ≤ 57 → n * 10 + (byte - 48) ≤ most
       → step (at (phase_of k n) w ws p) byte ≡ Goes (at (phase_of (k + 1) (n * 10 + (byte - 48))) w ws p)
 
-pub counts : ReadsNumber 1024 phase.Count
+pub counts : ReadsNumber 1048576 phase.Count
 unfolding step
 counts = record {
-  digit = λ k n byte w ws p lt low high le. rw (not_return byte low, has_room k lt, digit_is 1024 n byte low high le) refl;
+  digit = λ k n byte w ws p lt low high le. rw (not_return byte low, has_room k lt, digit_is 1048576 n byte low high le) refl;
 }
 
 pub sizes : ReadsNumber 1048576 phase.Size
@@ -45,7 +46,7 @@ sizes = record {
   digit = λ k n byte w ws p lt low high le. rw (not_return byte low, has_room k lt, digit_is 1048576 n byte low high le) refl;
 }
 
-module _ {most : ℕ} {phase_of : ℕ → ℕ → Phase} (reads : ReadsNumber most phase_of) (w : ℕ) (ws : List Word) (p : List ℕ) where
+module _ {most : ℕ} {phase_of : ℕ → ℕ → Phase} (reads : ReadsNumber most phase_of) (w : Left) (ws : List Word) (p : List ℕ) where
   abbrev IsRead : ℕ → List ℕ → Type 0
   IsRead n ds = n ≤ most → length ds ≤ 32 → (rest : List ℕ) → reading (at (phase_of 0 0) w ws p) (ds ++ rest) ≡ reading (at (phase_of (length ds) n) w ws p) rest
 

@@ -40,7 +40,7 @@ cut s (byte ∷ bytes) more = after_more (step s byte) (λ t. reading t bytes) (
 
 -- a step at which an error comes leaves the byte to be read again
 pub stops : (s s' new : State) (bytes : List ℕ) (i : ℕ) (lt : i < length bytes) (e : ReadError) → reading s (drop i bytes) ≡ reading s' bytes
-    → StepIs (step s (get_or bytes i 0)) (keeps s.phase (get_or bytes i 0)) s (Err e) new → TakesNext (record { state = s'; bytes = bytes }) (Err e) (record { state = new; bytes = drop i bytes })
+    → StepIs (step s (get_or bytes i 0)) (keeps s (get_or bytes i 0)) s (Err e) new → TakesNext (record { state = s'; bytes = bytes }) (Err e) (record { state = new; bytes = drop i bytes })
 stops s s' new bytes i lt (error.Protocol f) rest h = (sym rest ∙ fails s bytes i lt new f h.0, rw h.1 rest)
 stops s s' new bytes i lt error.Memory rest h =
     let front : drop i bytes ≡ get_or bytes i 0 ∷ drop (i + 1) bytes = rw (add-one, drop-cons bytes i 0) refl in

@@ -1,24 +1,25 @@
 -- A line of few digits is read together.
 use Rattle.std.proofs.Common.{◌≡◌, ◌≢◌, ℕ, ◌+◌, ◌-◌, ◌*◌, ◌<◌, ◌≤◌, false, eqb, List, [], inl, inr, drop, get_or, refl, sym, ap, ◌∙◌, arith}
-use Rattle.std.proofs.lemmas.Bool.{ne_eqb}
+use Rattle.std.proofs.lemmas.Bool.{le-ltb, ne_eqb}
+use Rattle.chord_resp.specs.declared.reading.left.Left.{Left}
 use Rattle.chord_resp.specs.declared.reading.phase.Phase.{Phase}
 use Rattle.chord_resp.specs.declared.reading.phase.Phase.TheVariants as phase
 use Rattle.chord_resp.specs.declared.reading.word.Word.{Word}
-use Rattle.chord_resp.specs.Machine.{Goes, step}
+use Rattle.chord_resp.specs.Machine.{Goes, State, less, room_for, step}
 use Rattle.chord_resp.specs.Reading.{reading, Skims}
 use Rattle.chord_resp.specs.ShortLines.{HasDigit, EndsLine, HasShortLine}
 use Rattle.chord_resp.proofs.NumberLaws.{at, ReadsNumber, counts, sizes}
 use Rattle.chord_resp.proofs.ReadingLaws.{goes}
 
 -- the digits of a line are read up to the line's end
-record DigitsRead (phase_of : ℕ → ℕ → Phase) (bytes : List ℕ) (w : ℕ) (ws : List Word) (p : List ℕ) (number upto : ℕ) : Type 0 where
+record DigitsRead (phase_of : ℕ → ℕ → Phase) (bytes : List ℕ) (w : Left) (ws : List Word) (p : List ℕ) (number upto : ℕ) : Type 0 where
   count : ℕ
   some : 1 ≤ count
   line : EndsLine bytes (count + 1)
   end : upto ≡ count + 3
   read : reading (at (phase_of 0 0) w ws p) (drop 1 bytes) ≡ reading (at (phase_of count number) w ws p) (drop (count + 1) bytes)
 
-module _ {most : ℕ} {phase_of : ℕ → ℕ → Phase} (reads : ReadsNumber most phase_of) (bytes : List ℕ) (w : ℕ) (ws : List Word) (p : List ℕ) where
+module _ {most : ℕ} {phase_of : ℕ → ℕ → Phase} (reads : ReadsNumber most phase_of) (bytes : List ℕ) (w : Left) (ws : List Word) (p : List ℕ) where
   -- one more digit
   digit : (k n i d : ℕ) → HasDigit bytes i d → k < 32 → n * 10 + d ≤ most
       → reading (at (phase_of k n) w ws p) (drop i bytes) ≡ reading (at (phase_of (k + 1) (n * 10 + d)) w ws p) (drop (i + 1) bytes)
@@ -49,7 +50,11 @@ module _ {most : ℕ} {phase_of : ℕ → ℕ → Phase} (reads : ReadsNumber mo
         read = first ∙ second;
       }
 
-module _ (w : ℕ) (ws : List Word) (p : List ℕ) where
+-- a command of this many words begins
+abbrev pub begun : ℕ → State
+begun number = at phase.Mark (record { words = number; bytes = room_for number }) [] []
+
+module _ (w : Left) (ws : List Word) (p : List ℕ) where
   mark_begins : step (at phase.Mark w ws p) 36 ≡ Goes (at (phase.Size 0 0) w ws p)
   unfolding step
   mark_begins = refl
@@ -58,9 +63,9 @@ module _ (w : ℕ) (ws : List Word) (p : List ℕ) where
   unfolding step
   size_ends count number some = rw some refl
 
-  body_begins : (number : ℕ) → step (at (phase.SizeEnd number) w ws p) 10 ≡ Goes (at (phase.Body number number) w ws p)
+  body_begins : (number : ℕ) → number ≤ w.bytes → step (at (phase.SizeEnd number) w ws p) 10 ≡ Goes (at (phase.Body number number) (less w number) ws p)
   unfolding step
-  body_begins number = refl
+  body_begins number room = rw (le-ltb w.bytes number room) refl
 
   command_begins : step (at phase.Start w ws p) 42 ≡ Goes (at (phase.Count 0 0) w ws p)
   unfolding step
@@ -70,14 +75,14 @@ module _ (w : ℕ) (ws : List Word) (p : List ℕ) where
   unfolding step
   count_ends count number some = rw some refl
 
-  words_begin : (number : ℕ) → eqb number 0 ≡ false → step (at (phase.CountEnd number) w ws p) 10 ≡ Goes (at phase.Mark number [] [])
+  words_begin : (number : ℕ) → eqb number 0 ≡ false → step (at (phase.CountEnd number) w ws p) 10 ≡ Goes (begun number)
   unfolding step
   words_begin number some = rw some refl
 
 -- the length of a word is read with its mark
-pub size_read : (bytes : List ℕ) (w : ℕ) (ws : List Word) (p : List ℕ) (number upto : ℕ) → HasShortLine bytes number upto → get_or bytes 0 0 ≡ 36
-    → Skims (at phase.Mark w ws p) bytes upto (at (phase.Body number number) w ws p)
-size_read bytes w ws p number upto line mark =
+pub size_read : (bytes : List ℕ) (w : Left) (ws : List Word) (p : List ℕ) (number upto : ℕ) → HasShortLine bytes number upto → get_or bytes 0 0 ≡ 36 → number ≤ w.bytes
+    → Skims (at phase.Mark w ws p) bytes upto (at (phase.Body number number) (less w number) ws p)
+size_read bytes w ws p number upto line mark room =
     let d = digits sizes bytes w ws p number upto line (omega arith) in
     let count = d.count in
     let some : eqb count 0 ≡ false = ne_eqb count 0 (λ e. absurd (omega (arith, e, d.some))) in
@@ -86,13 +91,13 @@ size_read bytes w ws p number upto line mark =
       goes (at phase.Mark w ws p) bytes 0 (omega (arith, d.line.there)) (at (phase.Size 0 0) w ws p) (rw mark (mark_begins w ws p))
           ∙ d.read
           ∙ goes (at (phase.Size count number) w ws p) bytes (count + 1) (omega (arith, d.line.there)) (at (phase.SizeEnd number) w ws p) (rw d.line.return (size_ends w ws p count number some))
-          ∙ goes (at (phase.SizeEnd number) w ws p) bytes (count + 1 + 1) d.line.there (at (phase.Body number number) w ws p) (rw d.line.newline (body_begins w ws p number))
-          ∙ ap (λ (i : ℕ). reading (at (phase.Body number number) w ws p) (drop i bytes)) behind,
+          ∙ goes (at (phase.SizeEnd number) w ws p) bytes (count + 1 + 1) d.line.there (at (phase.Body number number) (less w number) ws p) (rw d.line.newline (body_begins w ws p number room))
+          ∙ ap (λ (i : ℕ). reading (at (phase.Body number number) (less w number) ws p) (drop i bytes)) behind,
     )
 
 -- the count of words is read with its mark
-pub count_read : (bytes : List ℕ) (w : ℕ) (ws : List Word) (p : List ℕ) (number upto : ℕ) → HasShortLine bytes number upto → get_or bytes 0 0 ≡ 42 → number ≢ 0
-    → Skims (at phase.Start w ws p) bytes upto (at phase.Mark number [] [])
+pub count_read : (bytes : List ℕ) (w : Left) (ws : List Word) (p : List ℕ) (number upto : ℕ) → HasShortLine bytes number upto → get_or bytes 0 0 ≡ 42 → number ≢ 0
+    → Skims (at phase.Start w ws p) bytes upto (begun number)
 count_read bytes w ws p number upto line mark more =
     let d = digits counts bytes w ws p number upto line (omega arith) in
     let count = d.count in
@@ -102,6 +107,6 @@ count_read bytes w ws p number upto line mark more =
       goes (at phase.Start w ws p) bytes 0 (omega (arith, d.line.there)) (at (phase.Count 0 0) w ws p) (rw mark (command_begins w ws p))
           ∙ d.read
           ∙ goes (at (phase.Count count number) w ws p) bytes (count + 1) (omega (arith, d.line.there)) (at (phase.CountEnd number) w ws p) (rw d.line.return (count_ends w ws p count number some))
-          ∙ goes (at (phase.CountEnd number) w ws p) bytes (count + 1 + 1) d.line.there (at phase.Mark number [] []) (rw d.line.newline (words_begin w ws p number (ne_eqb number 0 more)))
-          ∙ ap (λ (i : ℕ). reading (at phase.Mark number [] []) (drop i bytes)) behind,
+          ∙ goes (at (phase.CountEnd number) w ws p) bytes (count + 1 + 1) d.line.there (begun number) (rw d.line.newline (words_begin w ws p number (ne_eqb number 0 more)))
+          ∙ ap (λ (i : ℕ). reading (begun number) (drop i bytes)) behind,
     )

@@ -1,3 +1,4 @@
+pub mod Quotes
 pub mod Machine
 pub mod ShortLines
 pub mod Reading

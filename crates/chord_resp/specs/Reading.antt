@@ -1,5 +1,6 @@
 -- What a stream of bytes spells. Source: our own.
 use Rattle.std.specs.Prelude.{◌≡◌, ◌≤◌, ◌+◌, ◌-◌, ◌^◌, ℕ, fold, min, List, [], ◌∷◌, ◌++◌, length, drop, Bool, true, false, not, ◌&&◌, ◌==◌, nat_lt, Option, Some, None, Result, Ok, Err}
+use Rattle.std.specs.List.{AllByRecursion}
 use Rattle.chord_resp.specs.declared.reading.phase.Phase.{Phase}
 use Rattle.chord_resp.specs.declared.reading.phase.Phase.TheVariants as phase
 use Rattle.chord_resp.specs.declared.reading.protocol_error.ProtocolError.{ProtocolError}
@@ -7,7 +8,7 @@ use Rattle.chord_resp.specs.declared.reading.read_error.ReadError.{ReadError}
 use Rattle.chord_resp.specs.declared.reading.read_error.ReadError.TheVariants as error
 use Rattle.chord_resp.specs.declared.reading.word.Word.{Word}
 use Rattle.chord_resp.specs.declared.reading.word.Word.TheVariants.{Whole, Long}
-use Rattle.chord_resp.specs.Machine.{State, Outcome, Goes, Gives, Fails, start, step}
+use Rattle.chord_resp.specs.Machine.{State, Outcome, Goes, Gives, Fails, is_known_behind, is_left_out, start, step}
 
 -- how a stream ends so far: with what has come of the next command, or with an error
 pub data Ending : Type 0 where
@@ -67,6 +68,13 @@ kept_behind bytes s = fold (λ (sum : ℕ) (word : Word). min (sum + word_bytes 
 abbrev pub partial_bytes : Reader → ℕ
 partial_bytes r = kept_behind (length r.bytes) r.state
 
+-- little is kept of a command that has not come whole: at most 1,024 words and the length of one
+-- more, each of at most 4,096 bytes, and 65,536 bytes of the word or line that has not ended
+pub record KeepsLittle (s : State) : Type 0 where
+  pub words : length s.words ≤ 1025
+  pub each : AllByRecursion (λ (word : Word). word_bytes word ≤ 4096) s.words
+  pub partial : length s.partial ≤ 65536
+
 -- no command has begun
 abbrev pub is_at_start : Phase → Bool
 is_at_start phase.Start = true
@@ -76,17 +84,24 @@ is_at_start _ = false
 abbrev pub is_between : Reader → Bool
 is_between r = (length r.bytes == 0) && is_at_start r.state.phase
 
+-- bytes are kept of a word that has this length, of which this many are still to come
+abbrev pub keeps_bytes : List Word → ℕ → ℕ → Bool
+keeps_bytes words count left = nat_lt 0 left && not (is_left_out words count)
+
 -- bytes or words are kept in this phase
-abbrev pub keeps : Phase → ℕ → Bool
-keeps phase.Start byte = not (byte == 42)
-keeps phase.Line byte = true
-keeps (phase.Count digits number) byte = false
-keeps (phase.CountEnd number) byte = false
-keeps phase.Mark byte = false
-keeps (phase.Size digits number) byte = false
-keeps (phase.SizeEnd number) byte = false
-keeps (phase.Body count left) byte = nat_lt 0 left
-keeps (phase.End count) byte = true
+abbrev pub keeps_in : Phase → List Word → ℕ → Bool
+keeps_in phase.Start words byte = not (byte == 42)
+keeps_in phase.Line words byte = true
+keeps_in (phase.Count digits number) words byte = false
+keeps_in (phase.CountEnd number) words byte = false
+keeps_in phase.Mark words byte = false
+keeps_in (phase.Size digits number) words byte = false
+keeps_in (phase.SizeEnd number) words byte = false
+keeps_in (phase.Body count left) words byte = keeps_bytes words count left
+keeps_in (phase.End count) words byte = is_known_behind words
+
+abbrev pub keeps : State → ℕ → Bool
+keeps s byte = keeps_in s.phase s.words byte
 
 -- What a byte's step answers, and the state after it. An error changes nothing; memory can be
 -- refused only if something is to be kept.
@@ -98,7 +113,7 @@ StepIs outcome kept old (Err error.Memory) new = (kept ≡ true) × (new ≡ old
 
 -- the next byte is to be kept
 abbrev pub KeepsNext : Reader → Type 0
-KeepsNext r = (byte : ℕ) × (bytes : List ℕ) × (r.bytes ≡ byte ∷ bytes) × (keeps r.state.phase byte ≡ true)
+KeepsNext r = (byte : ℕ) × (bytes : List ℕ) × (r.bytes ≡ byte ∷ bytes) × (keeps r.state byte ≡ true)
 
 -- the machine has read this number of the bytes, and no command has ended
 abbrev pub Skims : State → List ℕ → ℕ → State → Type 0

@@ -26,6 +26,7 @@ protocol_text protocol.BadCount = codes "invalid multibulk length"
 protocol_text (protocol.NoDollar byte) = codes "expected '$', got '" ++ (shown_byte byte ∷ [] ++ codes "'")
 protocol_text protocol.BadLength = codes "invalid bulk length"
 protocol_text protocol.TooLong = codes "too big inline request"
+protocol_text protocol.Unbalanced = codes "unbalanced quotes in request"
 protocol_text protocol.Foreign = codes "line of another protocol"
 
 -- how many members were done, if there are several
@@ -35,6 +36,7 @@ progress_text p = if nat_le p.of 1 then [] else codes ", " ++ (decimal p.done ++
 -- the front of an error's text, which is all of it if nothing is told beside
 unfoldable pub fixed_text : Refusal → List ℕ
 fixed_text (refusal.Protocol error) = codes "ERR Protocol error: "
+fixed_text refusal.TooManyWords = codes "ERR too many arguments, at most 1,022 members"
 fixed_text (refusal.UnknownCommand name) = codes "ERR unknown command '"
 fixed_text (refusal.UnknownSubcommand verb name) = codes "ERR unknown subcommand '"
 fixed_text (refusal.WrongNumber verb) = codes "ERR wrong number of arguments for '"
@@ -49,6 +51,11 @@ fixed_text refusal.NothingToExecute = codes "ERR EXEC without MULTI"
 fixed_text refusal.NothingToDiscard = codes "ERR DISCARD without MULTI"
 fixed_text refusal.NothingToAbort = codes "ERR No shutdown in progress."
 fixed_text refusal.Syntax = codes "ERR syntax error"
+fixed_text (refusal.HelloOption option) = codes "ERR Syntax error in HELLO option '"
+fixed_text refusal.NoPassword = codes "ERR AUTH <password> called without any password configured for the default user. Are you sure your configuration is correct?"
+fixed_text refusal.WrongPassword = codes "WRONGPASS invalid username-password pair or user is disabled."
+fixed_text (refusal.NotServed verb) = codes "ERR '"
+fixed_text refusal.BadName = codes "ERR Client names cannot contain spaces, newlines or special characters."
 fixed_text (refusal.SetFull progress) = codes "ERR set is full: it has 1000 members"
 fixed_text (refusal.StoreFull progress) = codes "OOM the node's store is full"
 fixed_text (refusal.NoAnswer progress) = codes "TRYAGAIN no answer in time, it may have acted"
@@ -64,6 +71,8 @@ abbrev pub detail : Refusal → List ℕ
 detail (refusal.Protocol error) = protocol_text error
 detail (refusal.UnknownCommand name) = shown name ++ codes "'"
 detail (refusal.UnknownSubcommand verb name) = shown name ++ help_of verb
+detail (refusal.HelloOption option) = shown option ++ codes "'"
+detail (refusal.NotServed verb) = verb_text verb ++ codes "' is not served"
 detail (refusal.WrongNumber verb) = verb_text verb ++ codes "' command"
 detail (refusal.SetFull progress) = progress_text progress
 detail (refusal.StoreFull progress) = progress_text progress

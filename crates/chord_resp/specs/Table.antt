@@ -1,6 +1,7 @@
 -- The table of commands: what the words of a command call for, or why it is refused. Source: the
 -- published pages of the commands; the limits are our own.
-use Rattle.std.specs.Prelude.{◌≡◌, ℕ, Bool, true, false, ◌&&◌, ◌||◌, List, [], ◌∷◌, length, nat_le, ◌==◌, if◌then◌else◌, codes, Option, Some, None, Result, Ok, Err}
+use Rattle.std.specs.Prelude.{◌≡◌, ℕ, Bool, true, false, ◌&&◌, ◌||◌, not, List, [], ◌∷◌, length, nat_le, nat_lt, ◌==◌, if◌then◌else◌, codes, bytes_eq, Option, Some, None, Result, Ok, Err}
+use Rattle.std.specs.List.{list_any}
 use Rattle.std.specs.Str.{str_eq_ignore_ascii_case}
 use Rattle.chord_resp.specs.declared.reading.word.Word.{Word}
 use Rattle.chord_resp.specs.declared.reading.word.Word.TheVariants.{Whole, Long}
@@ -13,7 +14,7 @@ use Rattle.chord_resp.specs.declared.table.command.Command.TheVariants as comman
 use Rattle.chord_resp.specs.declared.table.denied.Denied.{Denied}
 use Rattle.chord_resp.specs.declared.table.denied.Denied.TheVariants as denied
 use Rattle.chord_resp.specs.declared.table.refusal.Refusal.{Refusal}
-use Rattle.chord_resp.specs.declared.table.refusal.Refusal.TheVariants.{UnknownCommand, UnknownSubcommand, WrongNumber, KeyLength, MemberLength, WordLength, NoDatabase, NoProtocol, NoTransactions, NothingToAbort, Syntax}
+use Rattle.chord_resp.specs.declared.table.refusal.Refusal.TheVariants.{TooManyWords, UnknownCommand, UnknownSubcommand, WrongNumber, KeyLength, MemberLength, WordLength, NoDatabase, NoProtocol, NoTransactions, NothingToAbort, HelloOption, NoPassword, WrongPassword, BadName, NotServed, Syntax}
 
 infixl 10 ◌>>=◌
 abbrev pub ◌>>=◌ : {A B : Type 0} → Result A Refusal → (A → Result B Refusal) → Result B Refusal
@@ -54,12 +55,21 @@ verb_text verb.Discard = codes "discard"
 verb_text verb.Watch = codes "watch"
 verb_text verb.Unwatch = codes "unwatch"
 verb_text verb.Shutdown = codes "shutdown"
+verb_text verb.Auth = codes "auth"
+verb_text verb.Time = codes "time"
+verb_text verb.Flushall = codes "flushall"
+verb_text verb.Expire = codes "expire"
+verb_text verb.Move = codes "move"
+verb_text verb.Spop = codes "spop"
+verb_text verb.Smove = codes "smove"
+verb_text verb.Memory = codes "memory"
 
 -- all of them
 abbrev pub all_verbs : List Verb
 all_verbs = verb.Sadd ∷ verb.Srem ∷ verb.Smembers ∷ verb.Scard ∷ verb.Sismember ∷ verb.Smismember ∷ verb.Exists ∷ verb.Type ∷ verb.Ping ∷ verb.Echo
     ∷ verb.Select ∷ verb.Client ∷ verb.Hello ∷ verb.Command ∷ verb.Config ∷ verb.Info ∷ verb.Quit ∷ verb.Reset
-    ∷ verb.Multi ∷ verb.Exec ∷ verb.Discard ∷ verb.Watch ∷ verb.Unwatch ∷ verb.Shutdown ∷ []
+    ∷ verb.Multi ∷ verb.Exec ∷ verb.Discard ∷ verb.Watch ∷ verb.Unwatch ∷ verb.Shutdown ∷ verb.Auth ∷ verb.Time
+    ∷ verb.Flushall ∷ verb.Expire ∷ verb.Move ∷ verb.Spop ∷ verb.Smove ∷ verb.Memory ∷ []
 
 -- the word is this text, in upper or lower case
 unfoldable pub is_text : Word → List ℕ → Bool
@@ -94,7 +104,7 @@ takes verb.Ping words = nat_le words 1
 takes verb.Echo words = words == 1
 takes verb.Select words = words == 1
 takes verb.Client words = nat_le 1 words
-takes verb.Hello words = nat_le words 1
+takes verb.Hello words = true
 takes verb.Command words = true
 takes verb.Config words = nat_le 1 words
 takes verb.Info words = nat_le words 1
@@ -106,6 +116,14 @@ takes verb.Discard words = words == 0
 takes verb.Watch words = nat_le 1 words
 takes verb.Unwatch words = words == 0
 takes verb.Shutdown words = true
+takes verb.Auth words = nat_le 1 words
+takes verb.Time words = words == 0
+takes verb.Flushall words = true
+takes verb.Expire words = true
+takes verb.Move words = true
+takes verb.Spop words = true
+takes verb.Smove words = true
+takes verb.Memory words = true
 
 -- commands on sets
 abbrev pub is_of_sets : Verb → Bool
@@ -195,20 +213,76 @@ abbrev pub select_of : List Word → Result Command Refusal
 select_of [] = Err NoDatabase
 select_of (word ∷ words) = if is_text word (codes "0") then Ok command.Accept else Err NoDatabase
 
--- HELLO and HELLO 2
+-- the one user, `default`, whom each password lets in while no secret is set
+abbrev pub is_user : Word → Bool
+is_user (Whole bytes) = bytes_eq bytes (codes "default")
+is_user (Long count) = false
+
+-- a byte that cannot be printed, or a space
+abbrev pub is_odd : ℕ → Bool
+is_odd byte = nat_lt byte 33 || nat_lt 126 byte
+
+abbrev pub has_odd : List ℕ → Bool
+has_odd bytes = list_any (λ (byte : ℕ). is_odd byte) bytes
+
+-- a name that a connection may have
+abbrev pub is_name : Word → Bool
+is_name (Whole bytes) = not (has_odd bytes)
+is_name (Long count) = true
+
+-- what the next word of HELLO's options is: an option, or a word of this one
+pub data Expected : Type 0 where
+  AnOption : Expected
+  AUser : (option : Word) → Expected
+  APassword : (option user : Word) → Expected
+  AName : (option : Word) → Expected
+
+-- HELLO with these options; nothing of it is done where one is refused
+unfoldable pub hello_from : Expected → List Word → Result Command Refusal
+hello_from AnOption [] = Ok command.Hello
+hello_from AnOption (word ∷ words) =
+    if is_text word (codes "auth") then hello_from (AUser word) words
+    else (if is_text word (codes "setname") then hello_from (AName word) words
+    else Err (HelloOption word))
+hello_from (AUser option) [] = Err (HelloOption option)
+hello_from (AUser option) (word ∷ words) = hello_from (APassword option word) words
+hello_from (APassword option user) [] = Err (HelloOption option)
+hello_from (APassword option user) (word ∷ words) = if is_user user then hello_from AnOption words else Err WrongPassword
+hello_from (AName option) [] = Err (HelloOption option)
+hello_from (AName option) (word ∷ words) = if is_name word then hello_from AnOption words else Err BadName
+
+-- an option is met and others may follow, or HELLO is refused
+abbrev pub MeetsOption : Result Command Refusal → Result (Unit {0}) Refusal → List Word → Type 0
+MeetsOption called (Ok met) words = called ≡ hello_from AnOption words
+MeetsOption called (Err refusal) words = called ≡ Err refusal
+
+-- HELLO, and HELLO 2 with its options
 abbrev pub hello_of : List Word → Result Command Refusal
 hello_of [] = Ok command.Hello
-hello_of (word ∷ words) = if is_text word (codes "2") then Ok command.Hello else Err NoProtocol
+hello_of (word ∷ words) = if is_text word (codes "2") then hello_from AnOption words else Err NoProtocol
+
+-- AUTH with a user and a password; no password is set that could stand alone
+abbrev pub auth_of : List Word → Result Command Refusal
+auth_of [] = Err (WrongNumber verb.Auth)
+auth_of (password ∷ []) = Err NoPassword
+auth_of (user ∷ (password ∷ [])) = if is_user user then Ok command.Auth else Err WrongPassword
+auth_of (user ∷ (password ∷ (word ∷ words))) = Err Syntax
+
+-- CLIENT SETNAME and a name
+abbrev pub named : List Word → Result Command Refusal
+named (name ∷ []) = if is_name name then Ok command.Accept else Err BadName
+named _ = Err (WrongNumber verb.Client)
 
 -- CLIENT and its second word
 unfoldable pub client_of : List Word → Result Command Refusal
 client_of [] = Err (WrongNumber verb.Client)
 client_of (word ∷ words) =
-    if is_text word (codes "setname") || is_text word (codes "no-evict") || is_text word (codes "no-touch") then counted (length words == 1) verb.Client command.Accept
+    if is_text word (codes "setname") then named words
+    else (if is_text word (codes "no-evict") || is_text word (codes "no-touch") then counted (length words == 1) verb.Client command.Accept
     else (if is_text word (codes "setinfo") then counted (length words == 2) verb.Client command.Accept
     else (if is_text word (codes "getname") then counted (length words == 0) verb.Client command.Name
     else (if is_text word (codes "id") then counted (length words == 0) verb.Client command.Number
-    else Err (UnknownSubcommand verb.Client word))))
+    else Err (UnknownSubcommand verb.Client word)))))
 
 -- COMMAND and its second word
 unfoldable pub command_command : List Word → Result Command Refusal
@@ -251,6 +325,14 @@ connection_command verb.Discard words = Ok command.Discard
 connection_command verb.Watch words = Err NoTransactions
 connection_command verb.Unwatch words = Ok command.Accept
 connection_command verb.Shutdown words = shutdown_of words
+connection_command verb.Auth words = auth_of words
+connection_command verb.Time words = Ok command.Time
+connection_command verb.Flushall words = Err (NotServed verb.Flushall)
+connection_command verb.Expire words = Err (NotServed verb.Expire)
+connection_command verb.Move words = Err (NotServed verb.Move)
+connection_command verb.Spop words = Err (NotServed verb.Spop)
+connection_command verb.Smove words = Err (NotServed verb.Smove)
+connection_command verb.Memory words = Err (NotServed verb.Memory)
 connection_command _ words = Ok command.Quit
 
 -- ---- any command
@@ -264,7 +346,7 @@ abbrev pub command_named : Option Verb → Word → List Word → Result Command
 command_named None name words = Err (UnknownCommand name)
 command_named (Some v) name words = command_with v words
 
--- the command of some words, of which the first is its name
+-- the command of some words, of which the first is its name; they are at most 1,024
 unfoldable pub command_of : List Word → Result Command Refusal
 command_of [] = Err (UnknownCommand (Whole []))
-command_of (name ∷ words) = command_named (verb_of name) name words
+command_of (name ∷ words) = if nat_le 1024 (length words) then Err TooManyWords else command_named (verb_of name) name words

@@ -1,12 +1,15 @@
 pub mod commands;
 mod foreign;
+mod left;
 mod line;
 mod machine;
 mod numbers;
 mod phase;
+mod place;
 pub mod protocol_error;
 pub mod read_error;
 mod short_line;
+mod splitter;
 mod taken;
 pub mod word;
 pub mod words;

@@ -3,6 +3,7 @@
 pub mod command;
 mod connection_command;
 pub mod denied;
+mod hello;
 mod operand;
 mod operands;
 mod read_command;

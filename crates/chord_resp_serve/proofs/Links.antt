@@ -15,6 +15,7 @@ use Rattle.chord_resp.specs.declared.table.refusal.Refusal.TheVariants as refusa
 use Rattle.chord_resp.specs.Answers.{error}
 use Rattle.chord_resp.specs.Machine.{State}
 use Rattle.chord_resp.specs.Refusals.{refusal_text}
+use Rattle.chord_resp_serve.specs.News.{News}
 use Rattle.chord_resp_serve.specs.declared.about.About.{About}
 use Rattle.chord_resp_serve.specs.declared.command_protocol.CommandProtocol.{CommandProtocol}
 use Rattle.chord_resp_serve.specs.declared.flow.Flow.TheVariants as flow
@@ -47,9 +48,11 @@ asking_goes_on command.Accept asks = refl
 asking_goes_on command.Name asks = refl
 asking_goes_on command.Number asks = refl
 asking_goes_on command.Hello asks = refl
+asking_goes_on command.Auth asks = refl
 asking_goes_on command.Nothing asks = refl
 asking_goes_on command.Commands asks = refl
 asking_goes_on command.Info asks = refl
+asking_goes_on command.Time asks = refl
 asking_goes_on command.Reset asks = refl
 asking_goes_on command.Multi asks = refl
 asking_goes_on command.Exec asks = refl
@@ -58,7 +61,7 @@ asking_goes_on command.Quit asks = absurd (asks refl)
 asking_goes_on command.Shutdown asks = absurd (asks refl)
 
 -- what was answered at an end was answered where only a part of it was written
-answered_part : {A : Type 0} (answers : A → Question → Asked → A → Type 0) (tells : List ℕ → Type 0) (number : ℕ) (from : State) (end : Served) (n : Standing) (a a' : A) (i sent due : List ℕ)
+answered_part : {A : Type 0} (answers : A → Question → Asked → A → Type 0) (tells : News → Type 0) (number : ℕ) (from : State) (end : Served) (n : Standing) (a a' : A) (i sent due : List ℕ)
     → IsAnswered answers tells number from end n a i (sent ++ due) a' → WritesPart answers tells number from n a i sent a'
 answered_part answers tells number from served.Ended n a a' i sent due (state, at, q) = record { whole = sent ++ due; rest = due; parts = refl; done = inl (open_at state, q.standing, q.some) }
 answered_part answers tells number from served.Truncated n a a' i sent due (state, at, q) = record { whole = sent ++ due; rest = due; parts = refl; done = inl (open_at state, q.standing, q.some) }
@@ -71,7 +74,7 @@ answered_part answers tells number from served.Quit n a a' i sent due q = record
 answered_part answers tells number from served.Memory n a a' i sent due q = record { whole = sent ++ due; rest = due; parts = refl; done = inr (served.Memory, q) }
 answered_part answers tells number from (served.Malformed code) n a a' i sent due q = absurd q
 
-module _ {A I : Type 0} (answers : A → Question → Asked → A → Type 0) (tells : I → List ℕ → Type 0) where
+module _ {A I : Type 0} (answers : A → Question → Asked → A → Type 0) (tells : I → News → Type 0) where
   abbrev P : Type 0
   P = CommandProtocol A I
 

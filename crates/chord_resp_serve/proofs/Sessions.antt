@@ -12,6 +12,7 @@ use Rattle.chord_resp.specs.declared.reading.word.Word.{Word}
 use Rattle.chord_resp.specs.Machine.{State}
 use Rattle.chord_resp.specs.Reading.{Reading, Reader, Ending, Open, Broken, reading, reading_of, with_commands, with_more, goes_on, is_at_start, is_between}
 use Rattle.chord_resp.proofs.ReadingLaws.{cut, nothing_read}
+use Rattle.chord_resp_serve.specs.News.{News}
 use Rattle.chord_resp_serve.specs.declared.flow.Flow.TheVariants as flow
 use Rattle.chord_resp_serve.specs.declared.standing.Standing.{Standing}
 use Rattle.chord_resp_serve.specs.Connections.{open_at, broken_by, AnswersOne, AnswersEach, AnswersSome, AnswersWhole, AsksNext, RefusesBytes, RunsOut, TellsError, IsEnded, WritesPart, IsAnswered}
@@ -33,14 +34,14 @@ more_then : (r : Reading) (first second : List ℕ) → with_more r (first ++ se
 more_then r first second = ap (with_commands r.commands) (ending_more r.ending first second) ∙ sym (more_behind r.commands (goes_on r.ending first) second)
 
 module _ {A : Type 0} (answers : A → Question → Asked → A → Type 0) where
-  pub each_then : (t : List ℕ → Type 0) (i : ℕ) (cs ds : List (List Word)) (n m k : Standing) (a b e : A) (x y : List ℕ)
+  pub each_then : (t : News → Type 0) (i : ℕ) (cs ds : List (List Word)) (n m k : Standing) (a b e : A) (x y : List ℕ)
       → AnswersEach answers t i cs n a x m b → AnswersEach answers t i ds m b y k e → AnswersEach answers t i (cs ++ ds) n a (x ++ y) k e
   each_then t i [] ds n m k a b e x y p q =
       subst (λ (w : List ℕ). AnswersEach answers t i ds n a (w ++ y) k e) (sym p.0) (subst (λ (u : Standing). AnswersEach answers t i ds u a y k e) p.1 (subst (λ (c : A). AnswersEach answers t i ds m c y k e) p.2 q))
   each_then t i (words ∷ cs) ds n m k a b e x y p q =
       (p.0, p.1 ++ y, p.2, p.3, p.4, each_then t i cs ds p.2 m k p.3 b e p.1 y p.5 q, ap (λ (w : List ℕ). w ++ y) p.6 ∙ append_assoc p.0 p.1 y)
 
-module _ {A D H : Type 0} (answers : A → Question → Asked → A → Type 0) (tells : H → List ℕ → Type 0) (number : H → ℕ)
+module _ {A D H : Type 0} (answers : A → Question → Asked → A → Type 0) (tells : H → News → Type 0) (number : H → ℕ)
     (host : D → H) (reader : D → Reader) (standing : D → Standing) (asker : D → A) where
   -- the commands that were answered, and what is still to be read
   record Goes (c : D) (i o : List ℕ) (d : D) : Type 0 where
@@ -90,7 +91,7 @@ module _ {A D H : Type 0} (answers : A → Question → Asked → A → Type 0) 
   -- ---- from a state of the reader on
 
   module _ (s : State) (c : D) (fresh : reader c ≡ record { state = s; bytes = [] }) where
-    abbrev Told : List ℕ → Type 0
+    abbrev Told : News → Type 0
     Told = tells (host c)
 
     some : (d : D) (i o : List ℕ) → Talks Hear Step c i o d → AnswersSome answers Told (number (host c)) s (standing c) (asker c) i o (reading_of (reader d)) (standing d) (asker d)

@@ -9,6 +9,7 @@ use Rattle.chord_resp.specs.declared.reading.word.Word.{Word}
 use Rattle.chord_resp.specs.Machine.{State}
 use Rattle.chord_resp.specs.Reading.{Reading, Reader, Ending, Open, Broken, reading, reading_of, with_commands, with_more}
 use Rattle.chord_resp.proofs.ReadingLaws.{cut, nothing_read}
+use Rattle.chord_resp_serve.specs.News.{News}
 use Rattle.chord_resp_serve.specs.declared.about.About.{About}
 use Rattle.chord_resp_serve.specs.declared.flow.Flow.{Flow}
 use Rattle.chord_resp_serve.specs.declared.flow.Flow.TheVariants as flow
@@ -29,7 +30,7 @@ ending_nothing commands (Broken e) = ap (λ (cs : List (List Word)). record { co
 pub more_nothing : (r : Reading) → with_more r [] ≡ r
 more_nothing r = ending_nothing r.commands r.ending
 
-module _ {A : Type 0} (answers : A → Question → Asked → A → Type 0) (tells : List ℕ → Type 0) (number : ℕ) (words : List Word) (about : About) (knows : Knows answers tells number words about) where
+module _ {A : Type 0} (answers : A → Question → Asked → A → Type 0) (tells : News → Type 0) (number : ℕ) (words : List Word) (about : About) (knows : Knows answers tells number words about) where
   -- an answer behind what is due
   pub answered : (f : Result Flow AllocError) (n n' : Standing) (a a' : A) (old new : List ℕ) → AnswersWords answers about words n a f old new n' a'
       → (bytes : List ℕ) × AnswersOne answers tells number words f n a bytes n' a' × (new ≡ old ++ bytes)
@@ -45,7 +46,7 @@ module _ {A : Type 0} (answers : A → Question → Asked → A → Type 0) (tel
       let behind : new ≡ old ++ [] = same ∙ sym (append-nil old) in
       (same, record { about = about; knows = knows; due = old; answered = subst (λ (x : List ℕ). AnswersWords answers about words n a (Err refused) old x n' a') behind p })
 
-module _ {A D H : Type 0} (answers : A → Question → Asked → A → Type 0) (tells : H → List ℕ → Type 0) (number : H → ℕ)
+module _ {A D H : Type 0} (answers : A → Question → Asked → A → Type 0) (tells : H → News → Type 0) (number : H → ℕ)
     (host : D → H) (reader : D → Reader) (standing : D → Standing) (asker : D → A) where
   abbrev pub Fed : D → List ℕ → D → Type 0
   Fed c piece d = (reading_of (reader d) ≡ with_more (reading_of (reader c)) piece) × (standing d ≡ standing c) × (asker d ≡ asker c) × (host d ≡ host c)

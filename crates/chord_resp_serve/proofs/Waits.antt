@@ -15,6 +15,7 @@ use Rattle.chord_resp.specs.Answers.{Joins, error}
 use Rattle.chord_resp.specs.Reading.{reading_of, with_commands}
 use Rattle.chord_resp.specs.Refusals.{refusal_text}
 use Rattle.chord_resp.specs.Table.{command_of}
+use Rattle.chord_resp_serve.specs.News.{News, NewsIs, subject_of}
 use Rattle.chord_resp_serve.specs.declared.about.About.{About}
 use Rattle.chord_resp_serve.specs.declared.command_protocol.CommandProtocol.{CommandProtocol}
 use Rattle.chord_resp_serve.specs.declared.flow.Flow.{Flow}
@@ -25,18 +26,18 @@ use Rattle.chord_resp_serve.specs.declared.tally.Stopped.{Stopped}
 use Rattle.chord_resp_serve.specs.declared.waiting_command.WaitingCommand.{WaitingCommand}
 use Rattle.chord_resp_serve.specs.Asking.{AsksFrom, empty_tally, requests_of}
 use Rattle.chord_resp_serve.specs.Answering.{AnswersCommand, Tells, answer_of}
-use Rattle.chord_resp_serve.specs.Connections.{Knows, asks_info}
+use Rattle.chord_resp_serve.specs.Connections.{Knows}
 use Rattle.chord_resp_serve.specs.Transactions.{allowed, standing_behind}
 use Rattle.chord_resp_serve.specs.Waiting.{CommandAsked, CommandBegun, CommandIdles, CommandSteps, TakesCommand, TakesWords, step_of}
 use Rattle.chord_resp_serve.specs.Words.{AnswersTable, AnswersWords, flow_of, with_flow}
 use Rattle.chord_resp_serve.proofs.Steps.{answered, lacks}
 
-module _ {A I : Type 0} (answers : A → Question → Asked → A → Type 0) (tells : I → List ℕ → Type 0) where
+module _ {A I : Type 0} (answers : A → Question → Asked → A → Type 0) (tells : I → News → Type 0) where
   abbrev P : Type 0
   P = CommandProtocol A I
 
   -- what the server of a connection tells, and its number
-  abbrev Told : P → List ℕ → Type 0
+  abbrev Told : P → News → Type 0
   Told c = tells c.server.source.now
 
   -- nothing waits, so this is the state before the next command
@@ -100,7 +101,7 @@ module _ {A I : Type 0} (answers : A → Question → Asked → A → Type 0) (t
   IsAbout c about info = (about.number ≡ c.server.number) × (about.info.now ≡ info)
 
   known : (c d : P) (command : Command) (info : List ℕ) (about : About) (p : TakesCommand tells c command info d) → IsAbout c about info → Knows answers (Told c) c.server.number p.words about
-  known c d _ info about p (number, text) = record { numbered = number; informed = λ asks. subst (λ (x : List ℕ). tells c.server.source.now x) (sym text) (p.informed asks) }
+  known c d _ info about p (number, text) = record { numbered = number; informed = subst (λ (x : List ℕ). NewsIs (tells c.server.source.now) (subject_of p.words) x) (sym text) p.informed }
 
   -- a command is done and told
   pub command_steps : (c d e : P) (command : Command) (info : List ℕ) (about : About) (told : Result (Unit {0}) AllocError) (result : Result Flow AllocError) (old new : List ℕ)
@@ -136,11 +137,11 @@ module _ {A I : Type 0} (answers : A → Question → Asked → A → Type 0) (t
 
   -- words that are refused are told so, and nothing is asked
   pub refused_steps : (c d : P) (words : List Word) (info : List ℕ) (r : Refusal) (told : Result (Unit {0}) AllocError) (result : Result Flow AllocError) (old new : List ℕ)
-      → TakesWords c words d → d.waiting ≡ None → d.standing ≡ standing_behind c.standing (command_of words) → c.asker ≡ d.asker → (asks_info words ≡ true → tells d.server.source.now info)
+      → TakesWords c words d → d.waiting ≡ None → d.standing ≡ standing_behind c.standing (command_of words) → c.asker ≡ d.asker → NewsIs (tells d.server.source.now) (subject_of words) info
       → allowed c.standing.is_in_transaction (command_of words) ≡ Err r → Joins told old new (error (refusal_text r)) → result ≡ with_flow told flow.GoesOn → CommandSteps answers tells (step_of result) c old new d
   refused_steps c d words info r told result old new taken idle standing asker informed is joins flows =
       let n = standing_behind c.standing (command_of words) in
       let about : About = record { number = c.server.number; info = record { ref_ptr = (0, 0); now = info } } in
-      let knows : Knows answers (Told c) c.server.number words about = record { numbered = refl; informed = λ asks. subst (λ h. tells h.source.now info) taken.server (informed asks) } in
+      let knows : Knows answers (Told c) c.server.number words about = record { numbered = refl; informed = subst (λ h. NewsIs (tells h.source.now) (subject_of words) info) taken.server informed } in
       let table : AnswersTable answers (Err r) about n c.asker result old new d.standing d.asker = (told, standing, sym asker, joins, flows) in
       told_steps result c d words about old new taken idle knows (inr (subst (λ (t : Result Command Refusal). AnswersTable answers t about n c.asker result old new d.standing d.asker) (sym is) table))

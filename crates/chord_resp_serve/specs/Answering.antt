@@ -56,13 +56,15 @@ answer_of about command.Name t = null
 answer_of about command.Number t = integer about.number
 answer_of about command.Hello t = hello about.number
 answer_of about command.Nothing t = count 0
-answer_of about command.Commands t = integer 24
+answer_of about command.Commands t = integer 32
 answer_of about command.Info t = bulk about.info.now
+answer_of about command.Time t = about.info.now
 answer_of about command.Quit t = simple (codes "OK")
 answer_of about command.Reset t = simple (codes "RESET")
 answer_of about command.Multi t = simple (codes "OK")
 answer_of about command.Exec t = count 0
 answer_of about command.Discard t = simple (codes "OK")
+answer_of about command.Auth t = simple (codes "OK")
 answer_of about command.Shutdown t = []
 
 -- the error of a command that ended before its last request, of which it has this many

@@ -9,26 +9,20 @@ use Rattle.chord_resp.specs.declared.reading.protocol_error.ProtocolError.{Proto
 use Rattle.chord_resp.specs.declared.reading.protocol_error.ProtocolError.TheVariants as protocol
 use Rattle.chord_resp.specs.declared.reading.word.Word.{Word}
 use Rattle.chord_resp.specs.declared.table.refusal.Refusal.TheVariants as refusal
-use Rattle.chord_resp.specs.declared.table.verb.Verb.TheVariants as verb
 use Rattle.chord_resp.specs.Machine.{State}
 use Rattle.chord_resp.specs.Reading.{Reading, Open, Broken, reading, with_commands, is_at_start}
 use Rattle.chord_resp.specs.Answers.{error}
 use Rattle.chord_resp.specs.Refusals.{refusal_text}
-use Rattle.chord_resp.specs.Table.{is_text, verb_text}
 use Rattle.chord_resp_serve.specs.declared.about.About.{About}
 use Rattle.chord_resp_serve.specs.declared.flow.Flow.{Flow}
 use Rattle.chord_resp_serve.specs.declared.flow.Flow.TheVariants as flow
 use Rattle.chord_resp_serve.specs.declared.standing.Standing.{Standing}
+use Rattle.chord_resp_serve.specs.News.{News, NewsIs, subject_of}
 use Rattle.chord_resp_serve.specs.Words.{AnswersWords}
 
 -- a connection before its first request
 abbrev pub first_standing : Standing
 first_standing = record { asked = 0; is_in_transaction = false; shuts_down = false }
-
--- whether the words are those of INFO
-abbrev pub asks_info : List Word → Bool
-asks_info [] = false
-asks_info (name ∷ words) = is_text name (verb_text verb.Info)
 
 -- nothing more was read: the next command has come so far
 abbrev pub open_at : State → Reading
@@ -48,12 +42,12 @@ abbrev pub end_at : ProtocolError → Served
 end_at protocol.Foreign = served.Foreign
 end_at e = served.Protocol
 
-module _ {A : Type 0} (answers : A → Question → Asked → A → Type 0) (tells : List ℕ → Type 0) (number : ℕ) where
-  -- what a command knows of its server: the number of the connection, and INFO also a text that the
+module _ {A : Type 0} (answers : A → Question → Asked → A → Type 0) (tells : News → Type 0) (number : ℕ) where
+  -- what a command knows of its server: the number of the connection, and INFO and TIME also what the
   -- server tells
   pub record Knows (words : List Word) (about : About) : Type 0 where
     pub numbered : about.number ≡ number
-    pub informed : asks_info words ≡ true → tells about.info.now
+    pub informed : NewsIs tells (subject_of words) about.info.now
 
   -- the words of a command are answered with these bytes, behind what was due before
   pub record AnswersOne (words : List Word) (flow : Result Flow AllocError) (n : Standing) (a : A) (bytes : List ℕ) (n' : Standing) (a' : A) : Type 0 where
@@ -78,7 +72,7 @@ module _ {A : Type 0} (answers : A → Question → Asked → A → Type 0) (tel
     pub asked : AnswersOne words (Err refused) n a [] standing a'
 
 -- from this state of the reader on
-module _ {A : Type 0} (answers : A → Question → Asked → A → Type 0) (tells : List ℕ → Type 0) (number : ℕ) (from : State) where
+module _ {A : Type 0} (answers : A → Question → Asked → A → Type 0) (tells : News → Type 0) (number : ℕ) (from : State) where
   -- the first commands of the bytes are answered, and this is still to be read
   pub record AnswersSome (n : Standing) (a : A) (input output : List ℕ) (next : Reading) (n' : Standing) (a' : A) : Type 0 where
     pub commands : List (List Word)
@@ -151,7 +145,7 @@ module _ {A : Type 0} (answers : A → Question → Asked → A → Type 0) (tel
 
 -- how a command, or bytes that are none, end a connection: with what is still to be read before and
 -- after, and with these bytes
-module _ {A : Type 0} (answers : A → Question → Asked → A → Type 0) (tells : List ℕ → Type 0) (number : ℕ) where
+module _ {A : Type 0} (answers : A → Question → Asked → A → Type 0) (tells : News → Type 0) (number : ℕ) where
   -- the error is told
   pub record TellsError (end : Served) (next : Reading) (a : A) (bytes : List ℕ) (a' : A) : Type 0 where
     pub error : ProtocolError

@@ -1,3 +1,4 @@
+pub mod News
 pub mod Asking
 pub mod Answering
 pub mod Words

@@ -44,6 +44,7 @@ abbrev pub inside : Command → Result Command Refusal
 inside command.Exec = Err refusal.Aborted
 inside command.Discard = Ok command.Discard
 inside command.Hello = Ok command.Hello
+inside command.Auth = Ok command.Auth
 inside command.Quit = Ok command.Quit
 inside command.Reset = Ok command.Reset
 inside _ = Err refusal.NoTransactions

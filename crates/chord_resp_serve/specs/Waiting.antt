@@ -25,7 +25,8 @@ use Rattle.chord_resp_serve.specs.declared.standing.Standing.{Standing}
 use Rattle.chord_resp_serve.specs.declared.tally.Tally.{Tally}
 use Rattle.chord_resp_serve.specs.declared.waiting_command.WaitingCommand.{WaitingCommand}
 use Rattle.chord_resp_serve.specs.Asking.{AsksFrom, asked_one, empty_tally, outcome_of}
-use Rattle.chord_resp_serve.specs.Connections.{AnswersOne, StopsSo, asks_info}
+use Rattle.chord_resp_serve.specs.Connections.{AnswersOne, StopsSo}
+use Rattle.chord_resp_serve.specs.News.{News, NewsIs, subject_of}
 use Rattle.chord_resp_serve.specs.Transactions.{allowed, standing_behind}
 
 -- ---- the requests of a command
@@ -84,15 +85,15 @@ module _ {A I : Type 0} where
     pub next : reading_of c.commands ≡ with_commands (words ∷ []) (reading_of d.commands)
     pub server : d.server ≡ c.server
 
-  -- it is this command; the text is that of INFO, if the words ask for it
-  pub record TakesCommand (tells : I → List ℕ → Type 0) (c : CommandProtocol A I)
+  -- it is this command; the text is what the server tells, if the words ask for it
+  pub record TakesCommand (tells : I → News → Type 0) (c : CommandProtocol A I)
       (command : Command) (info : List ℕ) (d : CommandProtocol A I) : Type 0 where
     pub words : List Word
     pub taken : TakesWords c words d
     pub command_is : allowed c.standing.is_in_transaction (command_of words) ≡ Ok command
-    pub informed : asks_info words ≡ true → tells c.server.source.now info
+    pub informed : NewsIs (tells c.server.source.now) (subject_of words) info
 
-  module _ (answers : A → Question → Asked → A → Type 0) (tells : I → List ℕ → Type 0) where
+  module _ (answers : A → Question → Asked → A → Type 0) (tells : I → News → Type 0) where
     -- the next command is answered with these bytes
     abbrev pub CommandSays : CommandProtocol A I → List ℕ → CommandProtocol A I → Type 0
     CommandSays c bytes d = (words : List Word)

@@ -3,6 +3,6 @@
 pub struct About<'a> {
     /// The connection's number.
     pub number: u64,
-    /// The text of INFO.
+    /// The text of INFO, or the answer to TIME.
     pub info: &'a [u8],
 }

@@ -14,7 +14,7 @@ use chord_resp::{
 use std::alloc::{AllocError, Global};
 
 /// How many commands COMMAND COUNT tells of.
-const COMMANDS: u64 = 24;
+const COMMANDS: u64 = 32;
 
 impl Tally {
     // The values of the last reply.
@@ -101,9 +101,8 @@ pub fn put_answer(
         Command::Kind { .. } => put_simple(out, kind_of(tally.values())),
         Command::Ping => put_simple(out, b"PONG"),
         Command::Echo { word } => put_bulk(out, word.as_slice()),
-        Command::Accept | Command::Quit | Command::Multi | Command::Discard => {
-            put_simple(out, b"OK")
-        }
+        Command::Accept | Command::Auth | Command::Quit | Command::Multi | Command::Discard =>
+            put_simple(out, b"OK"),
         Command::Shutdown => Ok(()),
         Command::Reset => put_simple(out, b"RESET"),
         Command::Name => put_null(out),
@@ -115,6 +114,7 @@ pub fn put_answer(
         Command::Nothing | Command::Exec => put_count(out, 0),
         Command::Commands => put_integer(out, COMMANDS),
         Command::Info => put_bulk(out, about.info),
+        Command::Time => out.extend_from_slice(about.info),
     }
 }
 

@@ -17,8 +17,9 @@ use crate::flow::{Flow, flow_of, with_flow};
 use crate::hearing::{Course, hear_on};
 use crate::informs::Informs;
 use crate::requests::requests_of;
-use crate::server_info::{ServerInfo, info_for, tell_error};
+use crate::server_info::{ServerInfo, tell_error};
 use crate::standing::Standing;
+use crate::subject::Subject;
 use crate::tally::Tally;
 use crate::telling::tell;
 use crate::waiting_command::WaitingCommand;
@@ -240,7 +241,8 @@ impl<A: Asker, I: Informs> CommandProtocol<'_, A, I> {
         ensures stop { IfErr result IsStop }
         ensures patient { result ≡ Ok Later → may_wait ≡ true }
     {
-        let Ok(info) = info_for(alloc, self.server.source, &words) else {
+        let subject = Subject::of_words(&words);
+        let Ok(info) = subject.told_by(alloc, self.server.source) else {
             drop(words);
             return Err(Served::Memory);
         };

@@ -13,15 +13,18 @@ mod flow;
 mod hearing;
 mod informs;
 pub mod laws;
+mod moment;
 mod requests;
 mod server_info;
 mod session;
 mod standing;
+mod subject;
 mod tally;
 mod telling;
 mod waiting_command;
 
 pub use command_protocol::CommandProtocol;
 pub use informs::Informs;
+pub use moment::Moment;
 pub use server_info::ServerInfo;
 pub use session::serve_commands;

@@ -41,6 +41,7 @@ fn inside(command: Command) -> Result<Command, Refusal>
     match command {
         Command::Discard => Ok(Command::Discard),
         Command::Hello => Ok(Command::Hello),
+        Command::Auth => Ok(Command::Auth),
         Command::Quit => Ok(Command::Quit),
         Command::Reset => Ok(Command::Reset),
         Command::Exec => Err(Refusal::Aborted),

@@ -17,7 +17,7 @@ pub struct WaitingCommand {
     pub flow: Flow,
     /// What the requests before that one came to; `done` is its place.
     pub tally: Tally,
-    /// The text of INFO, which is empty for another command.
+    /// What INFO and TIME are told, which is empty for another command.
     pub info: Vec<u8>,
     ghost asks: { requests ≡ requests_of command },
     ghost goes: { flow ≡ flow_of command },

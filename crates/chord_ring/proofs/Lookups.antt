@@ -4,9 +4,9 @@ use Rattle.std.specs.Prelude.{IsSome, slice_set}
 use Rattle.std.specs.List.{find}
 use Rattle.std.proofs.lemmas.Bool.{cases_lt, cases_Bool, false≢true}
 use Rattle.std.proofs.lemmas.Option.{none-some}
-use Rattle.std.proofs.lemmas.List.{length-set, get_or_past, get_or_push, get_or_append_left, length_push}
+use Rattle.std.proofs.lemmas.List.{get_or_past, get_or_push, get_or_append_left, length_push}
 use Rattle.chord_links.specs.NodeLinks.{NodeLinks}
-use Rattle.chord_ring.specs.Ring.{Members, links_of, IsPrincipal}
+use Rattle.chord_ring.specs.Ring.{Members, links_of}
 
 -- the new members have this value at one number, and are the old ones elsewhere
 pub record Updates (old new : Members) (at : ℕ) (value : Option NodeLinks) : Type 0 where
@@ -52,14 +52,3 @@ find_more p q more (x ∷ xs) found =
             | inr failed ↦ rw fails (find_more p q more xs (rw failed at found))
           ]
     ]
-
--- a member's number after a departure is that of a node that once joined
-pub member_within_without : (members : Members) (gone node : ℕ) (links : NodeLinks) → links_of (slice_set members gone None) node ≡ Some links → node < length members
-member_within_without members gone node links is_its =
-    let same : length (slice_set members gone None) ≡ length members = length-set members gone None in
-    let within = member_within (slice_set members gone None) node links is_its in
-    omega arith
-
--- a principal's number after a departure is that of a node that once joined
-pub principal_within_without : (members : Members) (gone node : ℕ) → IsPrincipal (slice_set members gone None) node → node < length members
-principal_within_without members gone node principal = member_within_without members gone node principal.links principal.is_its

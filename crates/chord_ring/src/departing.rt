@@ -4,7 +4,9 @@ ghost use Rattle.std.specs.Option.{option_copied};
 ghost use Rattle.chord_links.specs.NodeLinks.{NodeLinks};
 ghost use Rattle.chord_links.specs.Successors.{Skips};
 ghost use Rattle.chord_ring.specs.Ring.{links_of, is_member, first_live, IsPrincipal, CanDepart};
+ghost use Rattle.chord_ring.specs.Rows.{members_among, number_in};
 
+use crate::member_row::{MemberRow, links_in};
 use crate::members::MemberReader;
 use chord_ident::{Id, between};
 use chord_links::Links;
@@ -46,7 +48,6 @@ fn skips(links: &Links, x: Id) -> bool
 }
 
 /// Whether node `number` is a principal once `gone` has departed.
-#[tactic(auto, using(crate::proofs::Lookups::member_within_without))]
 fn is_principal<M: MemberReader>(members: &M, gone: u64, number: u64) -> bool
     ensures yes { IsTrue result → IsPrincipal (slice_set (M.ring members.now).members gone None) number }
     ensures number { IsPrincipal (slice_set (M.ring members.now).members gone None) number → IsTrue result }
@@ -55,8 +56,8 @@ fn is_principal<M: MemberReader>(members: &M, gone: u64, number: u64) -> bool
         return false;
     };
     let id = links.me().id;
-    for other in 0..members.count() {
-        if let Some(theirs) = member_without(members, gone, other) {
+    for place in 0..members.listed() {
+        if let Some(theirs) = member_without(members, gone, members.listed_at(place)) {
             if skips(theirs, id) {
                 return false;
             }
@@ -66,13 +67,12 @@ fn is_principal<M: MemberReader>(members: &M, gone: u64, number: u64) -> bool
 }
 
 /// Whether each member's list has a live entry once `gone` has departed.
-#[tactic(auto, using(crate::proofs::Lookups::member_within_without))]
 fn are_live<M: MemberReader>(members: &M, gone: u64) -> bool
     ensures { let left = slice_set (M.ring members.now).members gone None in IsTrue result ↔
         ((number : ℕ) (links : NodeLinks) → links_of left number ≡ Some links → IsSome (first_live left links.entries)) }
 {
-    for number in 0..members.count() {
-        if let Some(links) = member_without(members, gone, number) {
+    for place in 0..members.listed() {
+        if let Some(links) = member_without(members, gone, members.listed_at(place)) {
             if !has_live_entry(members, gone, links) {
                 return false;
             }
@@ -82,13 +82,12 @@ fn are_live<M: MemberReader>(members: &M, gone: u64) -> bool
 }
 
 /// Whether there is a principal once `gone` has departed.
-#[tactic(auto, using(crate::proofs::Lookups::principal_within_without))]
 fn has_principal<M: MemberReader>(members: &M, gone: u64) -> bool
     ensures yes { IsTrue result → (number : ℕ) × IsPrincipal (slice_set (M.ring members.now).members gone None) number }
     ensures number { (number : ℕ) → IsPrincipal (slice_set (M.ring members.now).members gone None) number → IsTrue result }
 {
-    for number in 0..members.count() {
-        if is_principal(members, gone, number) {
+    for place in 0..members.listed() {
+        if is_principal(members, gone, members.listed_at(place)) {
             return true;
         }
     }
@@ -103,30 +102,45 @@ pub fn can_depart_in<M: MemberReader>(members: &M, number: u64) -> bool
     members.member(number).is_some() && are_live(members, number) && has_principal(members, number)
 }
 
-/// The links of each member, in a list by number.
+/// Rows of members, and how many nodes ever joined their ring.
 #[derive(Clone, Copy)]
-struct Listed<'a> {
-    members: &'a [Option<Links>],
+struct Rows<'a> {
+    rows: &'a [MemberRow],
+    count: u64,
 }
 
-impl<'a> MemberReader for Listed<'a> {
-    ghost ring = { λ listed. record { ids = []; members = listed.members.now } };
+impl<'a> MemberReader for Rows<'a> {
+    ghost ring = { λ it. record { ids = []; members = members_among it.count it.rows.now } };
+
+    ghost number_at = { λ it place. number_in it.rows.now place };
 
     fn member(&self, number: u64) -> Option<&Links> {
-        match self.members.get(number as usize) {
-            Some(Some(links)) => Some(links),
-            _ => None,
+        if number >= self.count {
+            return None;
         }
+        links_in(self.rows, number)
     }
 
     fn count(&self) -> u64 {
-        self.members.len() as u64
+        self.count
+    }
+
+    fn listed(&self) -> u64 {
+        self.rows.len() as u64
+    }
+
+    fn listed_at(&self, place: u64) -> u64 {
+        match self.rows.get(place as usize) {
+            Some(row) => row.number,
+            None => 0,
+        }
     }
 }
 
-/// `can_depart_in` over a list of the members' links, by number.
-pub fn can_depart_among(members: &[Option<Links>], number: u64) -> bool
-    ensures { IsTrue result ↔ CanDepart members.now number }
+/// `can_depart_in` over rows of the members, in any order, of a ring that `count` nodes ever
+/// joined. A row of a number that no node ever had is passed over.
+pub fn can_depart_among(rows: &[MemberRow], count: u64, number: u64) -> bool
+    ensures { IsTrue result ↔ CanDepart (members_among count rows.now) number }
 {
-    can_depart_in(&Listed { members }, number)
+    can_depart_in(&Rows { rows, count }, number)
 }

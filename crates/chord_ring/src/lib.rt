@@ -10,6 +10,7 @@
 
 mod departing;
 mod invariant;
+mod member_row;
 mod members;
 mod ring_core;
 mod ring_fault;
@@ -19,6 +20,7 @@ mod upkeep;
 
 pub use departing::{can_depart_among, can_depart_in};
 pub use invariant::principals_stand_on_one_ring;
+pub use member_row::MemberRow;
 pub use members::MemberReader;
 pub use ring_core::RingCore;
 pub use ring_fault::RingFault;

@@ -181,6 +181,8 @@ impl RingCore {
 impl MemberReader for RingCore {
     ghost ring = { λ core. core.ring };
 
+    ghost number_at = { λ core place. place };
+
     fn member(&self, number: u64) -> Option<&Links> {
         match self.members.get(number as usize) {
             Some(Some(links)) => Some(links),
@@ -190,6 +192,14 @@ impl MemberReader for RingCore {
 
     fn count(&self) -> u64 {
         self.members.len() as u64
+    }
+
+    fn listed(&self) -> u64 {
+        self.count()
+    }
+
+    fn listed_at(&self, place: u64) -> u64 {
+        place
     }
 }
 

@@ -9,6 +9,7 @@ pub mod HasWindow
 pub mod InFlight
 pub mod Keeping
 pub mod Lasting
+pub mod Marking
 pub mod Output
 pub mod Parting
 pub mod Question

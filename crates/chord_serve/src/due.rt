@@ -1,5 +1,5 @@
 //! The output that is due.
-ghost use Rattle.std.specs.Prelude.{◌≡◌, [], length, nat_lt};
+ghost use Rattle.std.specs.Prelude.{◌≡◌, ◌≤◌, [], length, nat_lt, vec_capacity};
 ghost use Rattle.chord_serve.specs.Writes.{Joins, Writes};
 
 use crate::write_bytes::write_bytes;
@@ -12,6 +12,18 @@ const DUE_LIMIT: usize = 65_536;
 
 /// A buffer with room for more bytes than these is freed once it is written.
 const KEPT_BYTES: usize = 131_072;
+
+/// Takes all bytes off, and frees a buffer with room for more than this many.
+pub(crate) fn clear(bytes: &mut Vec<u8>, alloc: Global, most: usize)
+    ensures none { bytes.new.items ≡ [] }
+    ensures room { vec_capacity bytes.new ≤ most }
+{
+    if bytes.capacity() > most {
+        *bytes = Vec::new(alloc);
+    } else {
+        bytes.clear();
+    }
+}
 
 /// The answers that are to be written together. The buffer serves for the next ones too.
 #[derive(Debug, Drop)]
@@ -41,11 +53,7 @@ impl Due {
     pub fn clear(&mut self, alloc: Global)
         ensures { self.new ≡ [] }
     {
-        if self.bytes.capacity() > KEPT_BYTES {
-            self.bytes = Vec::new(alloc);
-        } else {
-            self.bytes.clear();
-        }
+        clear(&mut self.bytes, alloc, KEPT_BYTES);
     }
 
     /// Adds an answer.

@@ -1,10 +1,10 @@
 //! The asker of these tests, and what drives links over it.
-ghost use Rattle.std.specs.Prelude.{◌≡◌, ◌≢◌, codes};
+ghost use Rattle.std.specs.Prelude.{◌≡◌, ◌≢◌};
 ghost use Rattle.chord_serve.specs.Question.{IsHeard, request_asked, request_at};
 ghost use Rattle.chord_serve.specs.declared.asker.Asked.TheVariants.{Memory};
 
 use chord_map::{PlainMap, Request};
-use chord_resp_serve::{Informs, ServerInfo};
+use chord_resp_serve::{Informs, Moment, ServerInfo};
 use chord_serve::{Asked, Asker, Link, NoMarks, Protocol, Stream};
 use chord_serve_testkit::{asked_of, note};
 use std::alloc::{AllocError, Global};
@@ -162,14 +162,21 @@ impl Asker for Scripted {
     ghost kind = { λ a b question answer heard. heard.0.kind };
 }
 
-/// Tells one line.
+/// Tells one line, and always the same moment.
 pub struct OneLine;
 
 impl Informs for OneLine {
-    ghost tells = { λ _ text. text ≡ codes "a:b\r\n" };
+    ghost tells = { λ _ _. Unit {0} };
 
     fn info(&self, alloc: Global) -> Result<Vec<u8>, AllocError> {
         Vec::from_slice(alloc, b"a:b\r\n")
+    }
+
+    fn time(&self) -> Moment {
+        Moment {
+            seconds: 1_796_123_976,
+            micros: 343_990,
+        }
     }
 }
 

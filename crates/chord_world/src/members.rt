@@ -64,6 +64,8 @@ pub(crate) fn is_used<S: EntryStore>(nodes: &[Node<S>], id: Id) -> bool
 impl<S: EntryStore> MemberReader for World<S> {
     ghost ring = { λ state. ring_of state };
 
+    ghost number_at = { λ state place. place };
+
     fn member(&self, number: u64) -> Option<&Links> {
         if number >= self.nodes.len() as u64 || is_dead(&self.fates, number) {
             return None;
@@ -73,6 +75,14 @@ impl<S: EntryStore> MemberReader for World<S> {
 
     fn count(&self) -> u64 {
         self.nodes.len() as u64
+    }
+
+    fn listed(&self) -> u64 {
+        self.count()
+    }
+
+    fn listed_at(&self, place: u64) -> u64 {
+        place
     }
 }
 

@@ -62,7 +62,7 @@ impl JoinRefusal {
         match self {
             JoinRefusal::IdTaken => "a node has the identifier",
             JoinRefusal::NoSlot => "all slots are taken",
-            JoinRefusal::NoStore => "no spare store of the kind is left",
+            JoinRefusal::NoStore => "the server makes stores of another kind",
             JoinRefusal::Unsettled => "the ring is not settled there",
             JoinRefusal::NoSuchNode => "no node has the number",
             JoinRefusal::Stopped => "the ring is stopped",

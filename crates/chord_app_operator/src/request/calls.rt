@@ -1,5 +1,6 @@
 //! The calls.
 
+use super::rows::Rows;
 use super::store_kind::StoreKind;
 use chord_ident::Id;
 
@@ -37,7 +38,8 @@ pub struct PairsRequest {
 #[derive(Clone, Copy, Debug, PartialEq, Eq)]
 pub enum OperatorCall {
     Page,
-    Ring,
+    /// The ring, with these nodes.
+    Ring(Rows),
     Metrics,
     Health,
     Ready,

@@ -7,11 +7,13 @@ ghost use Rattle.chord_app_operator.specs.Requests.{UnlessMemory, make, call_at,
 ghost use Rattle.chord_app_operator.specs.Outcomes.{and_then};
 ghost use Rattle.chord_app_operator.specs.Bodies.{body_object, join_of, force_of};
 ghost use Rattle.chord_app_operator.specs.Queries.{pairs_request};
+ghost use Rattle.chord_app_operator.specs.Rows.{rows_asked};
 
 use super::body::{is_forced, object};
 use super::calls::{CrashRequest, JoinRequest, OperatorCall, PairsRequest};
 use super::refusal::Refusal;
 use super::resource::Resource;
+use super::rows::Rows;
 use super::site::Site;
 use bytes::Bytes;
 use http::header::GetAll;
@@ -104,6 +106,15 @@ fn crash(alloc: Global, node: u64, body: &[u8]) -> Result<OperatorCall, Refusal>
     }
 }
 
+fn ring(query: Option<&str>) -> Result<OperatorCall, Refusal>
+    ensures { result ≡ make OperatorCall.Ring (rows_asked (option_copied query.entry)) }
+{
+    match Rows::of_query(query) {
+        Ok(rows) => Ok(OperatorCall::Ring(rows)),
+        Err(fault) => Err(Refusal::Bad(fault)),
+    }
+}
+
 fn pairs(query: Option<&str>) -> Result<OperatorCall, Refusal>
     ensures { result ≡ make OperatorCall.Pairs (pairs_request (option_copied query.entry)) }
 {
@@ -120,7 +131,7 @@ impl Resource {
     {
         match self {
             Resource::Page => Ok(OperatorCall::Page),
-            Resource::Ring => Ok(OperatorCall::Ring),
+            Resource::Ring => ring(query),
             Resource::Metrics => Ok(OperatorCall::Metrics),
             Resource::Health => Ok(OperatorCall::Health),
             Resource::Ready => Ok(OperatorCall::Ready),

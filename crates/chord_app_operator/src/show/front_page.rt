@@ -98,14 +98,14 @@ button:hover { border-color: currentColor; }
 <script>
 "use strict";
 const SVG = "http://www.w3.org/2000/svg";
-const PHASES = { staying: "#2e9e5b", leaving: "#d98e04", gone: "#8a8a94", crashed: "#d0342c", rescuing: "#3b7dd8" };
+const PHASES = { staying: "#2e9e5b", leaving: "#d98e04", crashed: "#d0342c", rescuing: "#3b7dd8" };
 // The most pairs that a part of a handover has.
 const PART_PAIRS = 64;
 const MINUTE = 60000;
 const REFUSALS = {
   IdTaken: "a node has this identifier.",
   NoSlot: "all slots are taken.",
-  NoStore: "no spare store of this kind is left.",
+  NoStore: "the server makes stores of another kind.",
   Unsettled: "the ring is not settled there. Try again soon.",
   NoSuchNode: "there is no such node.",
   Stopped: "the ring is stopped.",
@@ -176,7 +176,6 @@ function mark(phase, x, y, size) {
     return make("svg:path", { d: `M${x - size} ${y - size} l${2 * size} ${2 * size} M${x - size} ${+y + size} l${2 * size} ${-2 * size}`, stroke: fill, "stroke-width": 3 });
   }
   if (phase === "rescuing") return make("svg:path", { d: `M${x - size} ${y} h${2 * size} M${x} ${y - size} v${2 * size}`, stroke: fill, "stroke-width": 3 });
-  if (phase === "gone") return make("svg:circle", { cx: x, cy: y, r: size - 1, fill: "var(--bg)", stroke: fill, "stroke-width": 2 });
   if (phase === "leaving") return make("svg:path", { d: `M${x} ${y - size - 2} l${size + 2} ${size + 2} l${-size - 2} ${size + 2} l${-size - 2} ${-size - 2} z`, fill, stroke: "var(--bg)", "stroke-width": 1.5 });
   return make("svg:circle", { cx: x, cy: y, r: size, fill, stroke: "var(--bg)", "stroke-width": 1.5 });
 }
@@ -261,18 +260,17 @@ function namePlaces(nodes, places) {
 }
 
 function drawNodes(ring, places) {
-  const order = ["gone", "staying", "leaving", "crashed", "rescuing"];
+  const order = ["staying", "leaving", "crashed", "rescuing"];
   const sorted = [...ring.nodes].sort((a, b) => order.indexOf(a.phase) - order.indexOf(b.phase));
   const dots = sorted.map((node) => {
     const [x, y] = point(places.get(node.node), 160);
     return titled(mark(node.phase, +x, +y, live(node) ? 7 : 5), `Node ${node.node}, ${node.phase}, ${several(node.pairs, "pair")}`);
   });
-  const named = ring.nodes.filter((node) => node.phase !== "gone");
-  if (named.length > 100) return dots;
-  const names = namePlaces(named, places).flatMap(({ node, at }) => {
+  if (sorted.length > 100) return dots;
+  const names = namePlaces(sorted, places).flatMap(({ node, at }) => {
     const [x, y] = point(at, 188);
     const line = make("svg:path", { d: `M${point(places.get(node.node), 169)} L${point(at, 178)}`, stroke: "var(--dim)", "stroke-width": 0.7 });
-    return [line, make("svg:text", { x, y, fill: live(node) ? "currentColor" : "var(--dim)", "font-size": named.length > 40 ? 9 : 13, "text-anchor": "middle", "dominant-baseline": "central" }, node.node)];
+    return [line, make("svg:text", { x, y, fill: live(node) ? "currentColor" : "var(--dim)", "font-size": sorted.length > 40 ? 9 : 13, "text-anchor": "middle", "dominant-baseline": "central" }, node.node)];
   });
   return [...names, ...dots];
 }
@@ -332,6 +330,12 @@ function rowOf(node) {
 }
 
 function drawTable(ring) {
+  const there = new Set(ring.nodes.map((node) => node.node));
+  for (const [node, row] of rows) {
+    if (there.has(node)) continue;
+    row.all.remove();
+    rows.delete(node);
+  }
   for (const node of ring.nodes) {
     const row = rowOf(node);
     say(row.pairs, shown(node.pairs));
@@ -416,7 +420,7 @@ async function look() {
     drawCircle(ring);
     drawTable(ring);
     drawStrip(ring.uptime_ms);
-    say(byId("state"), `${several(ring.nodes.length, "node")} in ${several(ring.slots, "slot")}, ${several(ring.connections, "connection")}, ${ring.callers.open} of ${several(ring.callers.all, "caller")} open${ring.premise ? "" : ". A crash was forced that the ring did not allow: start a new ring"}`);
+    say(byId("state"), `${several(ring.nodes.length, "node")} in ${several(ring.slots, "slot")}, ${shown(ring.nodes_gone)} gone, ${several(ring.connections, "connection")}, ${ring.callers.open} of ${several(ring.callers.all, "caller")} open${ring.premise ? "" : ". A crash was forced that the ring did not allow: start a new ring"}`);
     byId("state").className = ring.premise ? "" : "bad";
     document.body.className = "";
   } catch (error) {

@@ -9,7 +9,7 @@ use chord_sight::Phase;
 /// with their braces.
 #[derive(Clone, Copy, Debug)]
 pub enum Series {
-    /// A line for each node.
+    /// A line for each node that is not gone.
     Node(&'static str, NodeCount),
     /// One line.
     Ring(&'static str, RingCount),
@@ -28,7 +28,7 @@ pub struct Metric {
 }
 
 /// All metrics, in their order.
-pub const METRICS: [Metric; 22] = [
+pub const METRICS: [Metric; 23] = [
     Metric {
         name: "chord_nodes",
         help: "Nodes by phase.",
@@ -36,10 +36,15 @@ pub const METRICS: [Metric; 22] = [
         series: &[
             Series::Ring("{phase=\"staying\"}", RingCount::Nodes(Phase::Staying)),
             Series::Ring("{phase=\"leaving\"}", RingCount::Nodes(Phase::Leaving)),
-            Series::Ring("{phase=\"gone\"}", RingCount::Nodes(Phase::Gone)),
             Series::Ring("{phase=\"crashed\"}", RingCount::Nodes(Phase::Crashed)),
             Series::Ring("{phase=\"rescuing\"}", RingCount::Nodes(Phase::Rescuing)),
         ],
+    },
+    Metric {
+        name: "chord_nodes_gone_total",
+        help: "Nodes that are gone.",
+        kind: "counter",
+        series: &[Series::Ring("", RingCount::Gone)],
     },
     Metric {
         name: "chord_ring_premise",

@@ -1,10 +1,11 @@
 //! A ring in Prometheus's text format.
 ghost use Rattle.std.specs.Prelude.{◌≡◌, ◌++◌, string_bytes, IfOk, OnOk};
 ghost use Rattle.std.specs.List.{flat_map};
-ghost use Rattle.chord_app_operator.specs.Metrics.{value_line, node_line, ring_line, bound_label, within_line, whole_label, whole_line, times_lines, comment_line, lines_of, text_of, metrics_text};
+ghost use Rattle.chord_app_operator.specs.Metrics.{value_line, line_of_node, node_line, ring_line, bound_label, within_line, whole_label, whole_line, times_lines, comment_line, lines_of, text_of, metrics_text};
 
 use super::metric::{METRICS, Metric, Series};
 use super::node_count::NodeCount;
+use crate::request::Rows;
 use crate::sight::{RequestTimes, RingSight, StoredNode, TimeCount};
 use itoa::Buffer;
 use std::alloc::{AllocError, Global};
@@ -20,14 +21,15 @@ fn add_value(text: &mut String, value: u64, scale: &str) -> Result<(), AllocErro
     text.push_str("\n")
 }
 
-fn add_node_line(
+fn add_line_of_node(
     text: &mut String,
     name: &str,
     labels: &str,
     count: NodeCount,
     node: &StoredNode,
 ) -> Result<(), AllocError>
-    ensures { OnOk result (string_bytes text.new ≡ string_bytes text.old ++ node_line name.now labels.now count node.now) }
+    ensures { OnOk result (string_bytes text.new
+        ≡ string_bytes text.old ++ line_of_node name.now labels.now count node.now) }
 {
     let mut buffer = Buffer::new();
     text.push_str(name)?;
@@ -37,6 +39,23 @@ fn add_node_line(
     text.push_str(labels)?;
     text.push_str("}")?;
     add_value(text, count.of(&node.sight), "")
+}
+
+// The same, unless the node is gone.
+fn add_node_line(
+    text: &mut String,
+    name: &str,
+    labels: &str,
+    count: NodeCount,
+    node: &StoredNode,
+) -> Result<(), AllocError>
+    ensures { OnOk result (string_bytes text.new ≡ string_bytes text.old ++ node_line name.now labels.now count node.now) }
+{
+    if Rows::Present.has(node.sight.phase) {
+        add_line_of_node(text, name, labels, count, node)
+    } else {
+        Ok(())
+    }
 }
 
 fn add_node_lines(

@@ -12,6 +12,8 @@ use chord_sight::Phase;
 pub enum RingCount {
     /// The nodes in this phase.
     Nodes(Phase),
+    /// The nodes that are gone, of all that ever were.
+    Gone,
     /// 1 as long as the ring allowed each crash.
     Premise,
     Connections,
@@ -61,11 +63,12 @@ fn count_in(phase: Phase, nodes: &[StoredNode]) -> u64
     count
 }
 
-// How often the nodes passed requests on; a sum that does not fit is 2^64 - 1.
-fn forwards_of(nodes: &[StoredNode]) -> u64
-    ensures { result ≡ forwards_of nodes.now }
+// How often the nodes passed requests on, and `past` times more; a sum that does not fit is
+// 2^64 - 1.
+fn forwards_of(past: u64, nodes: &[StoredNode]) -> u64
+    ensures { result ≡ forwards_of past nodes.now }
 {
-    let mut all = 0u64;
+    let mut all = past;
     for node in nodes {
         all = all.saturating_add(node.sight.counts.asks.forwarded);
     }
@@ -79,6 +82,7 @@ impl RingCount {
     {
         match self {
             RingCount::Nodes(phase) => count_in(phase, &ring.nodes),
+            RingCount::Gone => ring.gone(),
             RingCount::Premise => u64::from(ring.premise),
             RingCount::Connections => ring.connections,
             RingCount::CallersOpen => ring.callers.open,
@@ -99,7 +103,7 @@ impl RingCount {
             RingCount::Refused => ring.sessions.refused,
             RingCount::Frames(count) => count.of(&ring.answers.frames),
             RingCount::Redis(count) => count.of(&ring.answers.redis),
-            RingCount::Forwards => forwards_of(&ring.nodes),
+            RingCount::Forwards => forwards_of(ring.past_forwards, &ring.nodes),
             RingCount::BytesRead => ring.bytes.read,
             RingCount::BytesWritten => ring.bytes.written,
             RingCount::One => 1,

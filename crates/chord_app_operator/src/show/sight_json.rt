@@ -233,7 +233,11 @@ fn put_server(
 ) -> Result<(), AllocError>
     ensures { OnOk result (members_view members.new.entries ≡ with_members (members_view members.old.entries) (server_members ring.now)) }
 {
-    let sizes = [("successors", ring.successors), ("slots", ring.slots)];
+    let sizes = [
+        ("successors", ring.successors),
+        ("slots", ring.slots),
+        ("nodes_gone", ring.gone()),
+    ];
     put_counts(alloc, &sizes, members)?;
     put(members, alloc, "premise", Value::from(ring.premise))?;
     put(members, alloc, "callers", ring.callers.to_json(alloc)?)?;

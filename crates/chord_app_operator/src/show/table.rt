@@ -175,6 +175,7 @@ fn add_server(text: &mut String, ring: &RingSight) -> Result<(), AllocError>
         Told(ring.uptime_ms / 1000, " s, "),
         Told(nodes_of(ring), " of "),
         Told(ring.slots, " slots used, "),
+        Told(ring.gone(), " gone, "),
         Told(ring.successors, " successors, "),
         Told(ring.connections, " connections, "),
         Told(ring.callers.open, " of "),

@@ -212,3 +212,30 @@ fn all_connections_are_waited_for(rt: HostRuntime) {
     let left = left_open(&rt, rt.alloc()).map_err(|error| error.kind());
     assert!(rt; left == Ok(0), "each was removed: {left:?}");
 }
+
+/// What the client of a connection reads that was removed after all were told to end, or why it
+/// reads nothing: nothing is shut down that is removed within a second.
+fn read_behind_the_end<
+    R: Threads + Wait + Clock + Net<Listener = TcpListener, Stream = TcpStream> + Sync,
+>(rt: &R, alloc: Global) -> io::Result<usize> {
+    let (client, server) = connect(rt)?;
+    let server = Arc::new(alloc, server)?;
+    let clients = Clients::new(alloc);
+    clients.add(rt, 0, &server)?;
+    let (_, _) = thread::join(rt, || clients.end_all(rt), || remove_both(rt, &clients));
+    let mut byte = [0u8; 1];
+    let mut reader = &client;
+    let read = reader.read(&mut byte);
+    drop(clients);
+    drop(server);
+    read
+}
+
+#[test]
+fn connections_that_end_in_time_are_not_cut(rt: HostRuntime) {
+    let read = read_behind_the_end(&rt, rt.alloc()).map_err(|error| error.kind());
+    assert!(rt;
+        read == Err(io::ErrorKind::WouldBlock),
+        "it is open still: {read:?}"
+    );
+}

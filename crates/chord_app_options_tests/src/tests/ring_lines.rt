@@ -5,7 +5,8 @@ use std::test::Fail;
 
 const SAID: &str = "
 # what is asked for, once
-chord ring --operator 9 > operator 9: Show
+chord ring --operator 9 > operator 9: Show(Present)
+chord ring --operator 9 --all > operator 9: Show(All)
 chord ring --operator 9 join > operator 9: Join Tree
 chord ring --operator 9 join 000000000000000000000000000000aB --store capped --limit 10 --via 2 > \
 operator 9: Join Capped, id 000000000000000000000000000000ab, limit 10, via 2
@@ -15,9 +16,10 @@ chord ring --operator 9 crash 7 --force > operator 9: Crash(CrashRequest { node:
 chord ring --operator 9 rescue 7 > operator 9: Rescue(7)
 chord ring --operator 9 stop > operator 9: Stop
 # the ring is shown as often as the line says
-chord ring --operator 9 --watch > operator 9: Show, times 18446744073709551615
-chord ring --operator 9 --times 3 > operator 9: Show, times 3
-chord ring --watch --times 3 --operator 9 > operator 9: Show, times 3
+chord ring --operator 9 --watch > operator 9: Show(Present), times 18446744073709551615
+chord ring --operator 9 --times 3 > operator 9: Show(Present), times 3
+chord ring --watch --times 3 --operator 9 > operator 9: Show(Present), times 3
+chord ring --operator 9 --watch --all > operator 9: Show(All), times 18446744073709551615
 # a copy is read of the operator, and asked of the port for clients
 chord ring --operator 9 dump > operator 9: Dump
 chord ring --port 7 restore > port 7: Restore
@@ -28,11 +30,13 @@ const REFUSED: &str = "
 chord ring > refused 2
 chord ring --operator 0 > refused 2
 chord ring --operator 65536 > refused 2
-# only a look at the ring is done more than once
+# only a look at the ring is done more than once, and shows all nodes
 chord ring --operator 9 --times 0 > refused 2
 chord ring --operator 9 --watch stop > refused 2
 chord ring --operator 9 --times 1 leave 2 > refused 2
 chord ring --operator 9 --times 1 rescue 7 > refused 2
+chord ring --operator 9 --all rescue 7 > refused 2
+chord ring --operator 9 --all dump > refused 2
 # an identifier has 32 digits, only a capped store has a limit, and a node has a number
 chord ring --operator 9 join 00ab > refused 2
 chord ring --operator 9 join --store noted > refused 2
@@ -71,6 +75,7 @@ fault chord ring --operator 9 leave x > 2 invalid value 'x' for '<NODE>': the nu
 fault chord ring --operator 9 join 00ab > 2 invalid value '00ab' for '[ID]': 32 hexadecimal digits
 fault chord ring --operator 9 join --limit 3 > 2 '--limit <N>' is only for '--store capped'
 fault chord ring --operator 9 restore > 2 restore has '--port <N>', and all else has '--operator <PORT>'
+fault chord ring --operator 9 --all stop > 2 '--watch', '--times <N>' and '--all' are only for the table
 ";
 
 #[test]

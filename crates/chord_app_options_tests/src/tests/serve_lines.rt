@@ -131,7 +131,7 @@ const HELP: &str = concat!(
     "      --idle <SECONDS>    If it stays: how long a client may be idle, 1 to 86400, else 300\n",
     "      --keep <SECONDS>    If it stays: how long a session without a connection is kept, 0 to 86400, else 600\n",
     "      --operator <N>      If it stays: an operator's port on 127.0.0.1, 1 to 65535, or 0 for any that is free\n",
-    "      --slots <N>         If it stays: how many nodes there may ever be, 1 to 4096, else the plan's\n",
+    "      --slots <N>         If it stays: how many nodes there may be at once, 1 to 4096, else the plan's\n",
     "      --callers <N>       If it stays: how many callers there may be, 1 to 16384, else the plan's\n",
     "      --buffers <MB>      If it stays: how many megabytes all connections may hold, 1 to 65536, else 256\n",
     "      --journal <FILE>    If it stays: the file that keeps all changes, loaded at the start\n",

@@ -2,7 +2,7 @@
 
 use super::devices::{ask, ask_with_fields};
 use super::operators::RingValue;
-use super::sights::{RING_JSON, RING_METRICS, RING_TABLE, ring};
+use super::sights::{RING_JSON, RING_METRICS, RING_TABLE, WHOLE_TABLE, ring, whole_ring};
 use crate::checks::check;
 use chord_app_operator::{
     HealthSight, Holder, PairsRequest, ToJson, array, holder_value, id_text, metrics_text,
@@ -52,6 +52,16 @@ fn a_ring_is_the_table_of_its_nodes(rt: HostRuntime) -> Result<(), Fail> {
         drop(seen);
         check!(&rt; is_json, fields);
     }
+    Ok(())
+}
+
+/// A node that is gone is shown where all are asked for.
+#[test]
+fn all_nodes_are_shown_where_they_are_asked_for(rt: HostRuntime) -> Result<(), Fail> {
+    let seen = ask_with_fields(&rt, "GET /ring?all", "Accept: text/plain\r\n")?;
+    check!(&rt; seen.ends(WHOLE_TABLE));
+    check!(&rt; seen.asked(b"s"), "it looks once");
+    drop(seen);
     Ok(())
 }
 
@@ -299,8 +309,10 @@ fn texts_are_those_of_the_answers(rt: HostRuntime) -> Result<(), Fail> {
     check!(&rt; is_text(id_text(rt.alloc(), TEN), DIGITS_OF_TEN) == Some(true));
     let sight = ring(rt.alloc())?;
     let is_ring = is_text(ring_text(rt.alloc(), &sight), RING_JSON);
-    let are_metrics = is_text(metrics_text(rt.alloc(), &sight), RING_METRICS);
     let is_table = is_text(ring_table(rt.alloc(), &sight), RING_TABLE);
+    drop(sight);
+    let sight = whole_ring(rt.alloc())?;
+    let are_metrics = is_text(metrics_text(rt.alloc(), &sight), RING_METRICS);
     drop(sight);
     check!(&rt; is_ring == Some(true));
     check!(&rt; are_metrics == Some(true));

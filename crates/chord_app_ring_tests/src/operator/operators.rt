@@ -1,6 +1,6 @@
 //! An operator of a ring that is a plain value. It notes what it is asked.
 
-use super::sights::ring;
+use super::sights::whole_ring;
 use chord_app_operator::{
     CrashRefusal, CrashRequest, HealthSight, Holder, JoinRefusal, JoinRequest, LeaveRefusal,
     Operator, PageState, Pair, PairsPage, PairsRequest, RescueRefusal, RingSight,
@@ -85,7 +85,7 @@ impl Operator for RingValue {
         if !self.has_memory {
             return Err(AllocError);
         }
-        ring(alloc)
+        whole_ring(alloc)
     }
 
     fn health(&mut self) -> HealthSight {

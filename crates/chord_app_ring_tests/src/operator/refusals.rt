@@ -73,6 +73,8 @@ const QUERIES: &[Refused] = &[
     ("GET /pairs?limit=1&limit=x", "", "BadLimit"),
     ("GET /pairs?after=00", "", "BadAfter"),
     ("GET /pairs?before=1", "", "UnknownParameter"),
+    ("GET /ring?every", "", "UnknownParameter"),
+    ("GET /ring?all=1", "", "UnknownParameter"),
 ];
 
 #[test]

@@ -4,7 +4,7 @@ use crate::checks::check;
 use bytes::Bytes;
 use chord_app_operator::{
     CrashRefusal, Fault, JoinRefusal, JoinRequest, LeaveRefusal, OperatorCall, PageState, Pair,
-    PairsRequest, Refusal, RescueRefusal, Resource, Site, StoreKind, Verb, pair_lines,
+    PairsRequest, Refusal, RescueRefusal, Resource, Rows, Site, StoreKind, Verb, pair_lines,
 };
 use chord_sight::Phase;
 use http::Request;
@@ -53,6 +53,9 @@ fn queries_and_objects_are_read(rt: HostRuntime) -> Result<(), Fail> {
         limit: 1000,
     };
     check!(&rt; PairsRequest::of_query(Some("limit=1000")) == Ok(asked));
+    check!(&rt; Rows::of_query(None) == Ok(Rows::Present));
+    check!(&rt; Rows::of_query(Some("all")) == Ok(Rows::All));
+    check!(&rt; Rows::Present.has(Phase::Crashed) && !Rows::Present.has(Phase::Gone));
     let value = Value::from_str(rt.alloc(), "{\"via\":3}")?;
     let read = JoinRequest::of_object(&value);
     drop(value);

@@ -3,6 +3,7 @@
 use super::requests::{CRASH, PLAIN_JOIN};
 use super::streams::MadeStream;
 use crate::checks::check;
+use chord_app_operator::Rows;
 use chord_app_ring::{RingCommand, RingFault, exchange, text_of};
 use std::alloc::Global;
 use std::test::Fail;
@@ -122,7 +123,10 @@ const ANSWERS: &[(&str, &str)] = &[
 fn what_answers_say(rt: HostRuntime) -> Result<(), Fail> {
     for (answer, wanted) in ANSWERS {
         for step in [1, 5, 4096] {
-            for command in [RingCommand::Show, RingCommand::Join(PLAIN_JOIN)] {
+            for command in [
+                RingCommand::Show(Rows::Present),
+                RingCommand::Join(PLAIN_JOIN),
+            ] {
                 let is_said = says(rt.alloc(), &command, answer.as_bytes(), step, wanted);
                 check!(&rt; is_said, answer);
             }

@@ -6,9 +6,9 @@ use super::streams::MadeStream;
 use crate::checks::check;
 use crate::operator::devices::{Exchange, serve_bytes};
 use crate::operator::operators::RingValue;
-use crate::operator::sights::RING_TABLE;
+use crate::operator::sights::{RING_TABLE, WHOLE_TABLE};
 use chord_app_operator::{
-    CrashRefusal, JoinRefusal, LeaveRefusal, PageState, PairsRequest, RescueRefusal,
+    CrashRefusal, JoinRefusal, LeaveRefusal, PageState, PairsRequest, RescueRefusal, Rows,
 };
 use chord_app_ring::{
     Page, RingCommand, RingFault, exchange_pairs, page_of, pairs_bytes, request_behind,
@@ -53,9 +53,15 @@ fn serve(rt: &HostRuntime, operator: RingValue, command: &RingCommand) -> Result
 /// it and by one that does not.
 const COMMANDS: &[(RingCommand, &[u8], &str, &str)] = &[
     (
-        RingCommand::Show,
+        RingCommand::Show(Rows::Present),
         b"s",
         RING_TABLE,
+        "refused: refused Memory\n",
+    ),
+    (
+        RingCommand::Show(Rows::All),
+        b"s",
+        WHOLE_TABLE,
         "refused: refused Memory\n",
     ),
     (
@@ -109,7 +115,7 @@ fn is_asked(command: &RingCommand, operator: &RingValue) -> bool {
         RingCommand::Leave(node) => operator.left == Some(*node),
         RingCommand::Crash(request) => operator.crash == Some(*request),
         RingCommand::Rescue(node) => operator.rescued == Some(*node),
-        RingCommand::Show | RingCommand::Stop => true,
+        RingCommand::Show(_) | RingCommand::Stop => true,
     }
 }
 

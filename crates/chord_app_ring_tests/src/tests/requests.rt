@@ -2,7 +2,7 @@
 
 use super::streams::MadeStream;
 use crate::checks::check;
-use chord_app_operator::{CrashRequest, JoinRequest, PairsRequest, StoreKind};
+use chord_app_operator::{CrashRequest, JoinRequest, PairsRequest, Rows, StoreKind};
 use chord_app_ring::{
     RingCommand, RingFault, exchange, pairs_path, request_body, request_bytes, request_path,
 };
@@ -42,9 +42,9 @@ pub const FORCED_CRASH: CrashRequest = CrashRequest {
 };
 
 /// Each kind of command with what is sent to port 7001.
-const SENT: [(RingCommand, &str); 8] = [
+const SENT: [(RingCommand, &str); 9] = [
     (
-        RingCommand::Show,
+        RingCommand::Show(Rows::Present),
         "GET /ring HTTP/1.1\r\nhost: 127.0.0.1:7001\r\naccept: text/plain\r\n\r\n",
     ),
     (
@@ -74,6 +74,10 @@ const SENT: [(RingCommand, &str); 8] = [
     (
         RingCommand::Stop,
         "POST /stop HTTP/1.1\r\nhost: 127.0.0.1:7001\r\naccept: text/plain\r\ncontent-length: 0\r\n\r\n",
+    ),
+    (
+        RingCommand::Show(Rows::All),
+        "GET /ring?all HTTP/1.1\r\nhost: 127.0.0.1:7001\r\naccept: text/plain\r\n\r\n",
     ),
 ];
 
@@ -160,7 +164,7 @@ fn a_request_goes_over_the_stream(rt: HostRuntime) {
 #[test]
 fn a_stream_that_takes_nothing_is_lost(rt: HostRuntime) {
     let mut deaf = MadeStream::deaf(rt.alloc());
-    let is_lost = is_lost(rt.alloc(), &mut deaf, &RingCommand::Show);
+    let is_lost = is_lost(rt.alloc(), &mut deaf, &RingCommand::Show(Rows::Present));
     drop(deaf);
     check!(&rt; is_lost);
 }

@@ -2,6 +2,7 @@
 
 use super::loopback::Command;
 use crate::checks::check;
+use chord_app_operator::Rows;
 use chord_app_ring::RingCommand;
 use chord_app_text::{Fault, Finish};
 
@@ -18,7 +19,7 @@ const REFUSED: &[u8] =
 #[test]
 fn the_ring_is_shown_again(rt: HostRuntime) -> Result<(), std::alloc::AllocError> {
     let twice = format!(in rt.alloc(); "{SHOWN}{SHOWN}")?;
-    let command = Command::Ask(RingCommand::Show, 2);
+    let command = Command::Ask(RingCommand::Show(Rows::Present), 2);
     let look: &[u8] = b"GET /ring HTTP/1.1\r\n";
     let talks = [(look, TABLE), (look, TABLE)];
     let ran = command.run_at(&rt, rt.alloc(), &talks, (&twice, ""));
@@ -51,6 +52,6 @@ fn ends_of_the_command(rt: HostRuntime) {
 
 #[test]
 fn nobody_listens(rt: HostRuntime) {
-    let is_told = Command::Ask(RingCommand::Show, 3).finds_nobody(&rt, rt.alloc());
+    let is_told = Command::Ask(RingCommand::Show(Rows::Present), 3).finds_nobody(&rt, rt.alloc());
     check!(&rt; is_told == Some(true), "nobody listens");
 }

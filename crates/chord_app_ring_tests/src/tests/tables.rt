@@ -9,7 +9,7 @@ use std::test::Fail;
 
 /// The table of the ring of these tests.
 const TABLE: &str = concat!(
-    "up 12 s, 5 of 16 slots used, 4 successors, 5 connections, 3 of 64 callers open\n",
+    "up 12 s, 5 of 16 slots used, 37 gone, 4 successors, 5 connections, 3 of 64 callers open\n",
     "node  identifier                        phase       share      pairs  segments  outbox\n",
     "   0  40000000000000000000000000000000  staying    75.00%       1234         1  64 to 1, 64 to 2\n",
     "   1  80000000000000000000000000000000  leaving    24.99%          0         2  -\n",
@@ -32,7 +32,7 @@ fn the_table_of_a_ring(rt: HostRuntime) -> Result<(), Fail> {
 
 /// The table of a ring without nodes, whose operator forced a crash.
 const FORCED: &str = concat!(
-    "up 12 s, 0 of 16 slots used, 4 successors, 5 connections, 3 of 64 callers open\n",
+    "up 12 s, 0 of 16 slots used, 41 gone, 4 successors, 5 connections, 3 of 64 callers open\n",
     "a crash was forced that the ring did not allow: start a new ring\n",
     "node  identifier                        phase       share      pairs  segments  outbox\n",
 );

@@ -1,50 +1,27 @@
 //! The two forms of the command `serve`.
-ghost use Rattle.std.specs.Prelude.{◌≡◌, IfOk, vec_len};
+ghost use Rattle.std.specs.Prelude.{IfOk};
 ghost use Rattle.chord_app_serve.specs.Whole.{StandsWhole};
 
 use crate::plan_run::ring_parts_of;
+use crate::serving::made_store::MadeStore;
 use crate::serving::request_tally::RequestTally;
 use crate::serving::server::Serving;
 use crate::serving::whole_ring::WholeRing;
 use chord_app_sockets::{ClientLimits, Host, Lines, ServerSetup, Stop, Until};
 use chord_app_text::Finish;
 use chord_live_ring::RingParts;
-use chord_store::EntryStore;
 use log::Log;
-use std::alloc::Global;
 use std::io::{Read, Write};
 use std::marker::Brand;
 use std::sync::Arc;
 use std::thread;
 
-/// The stores of a server.
-#[derive(Drop)]
-pub struct ServerStores<S: EntryStore> {
-    /// One for each node of the plan.
-    pub nodes: Vec<S>,
-    /// For nodes that join later, all of the plan's kind of spare stores.
-    pub spares: Vec<S>,
-}
-
-impl<S: EntryStore> ServerStores<S> {
-    /// Stores for the nodes of the plan alone.
-    pub fn without_spares(alloc: Global, nodes: Vec<S>) -> ServerStores<S>
-        ensures nodes { result.nodes ≡ nodes }
-        ensures none { vec_len result.spares ≡ 0 }
-    {
-        ServerStores {
-            nodes,
-            spares: Vec::new(alloc),
-        }
-    }
-}
-
 /// Serves until then, and writes the lines that are left. Where they can't be written a server that
 /// stays has done its work all the same.
-fn serve_until<S: EntryStore + Send, R: Host, L: Log + Sync, W: Write + Send + Drop>(
+fn serve_until<S: MadeStore + Send, R: Host, L: Log + Sync, W: Write + Send + Drop>(
     rt: &R,
     setup: &ServerSetup<'_, L>,
-    stores: ServerStores<S>,
+    stores: Vec<S>,
     until: Until<'_>,
     lines: Lines<W>,
     parts: RingParts,
@@ -85,7 +62,7 @@ fn serve_until<S: EntryStore + Send, R: Host, L: Log + Sync, W: Write + Send + D
 
 /// The command `serve --connections`: a ring of the plan's nodes over these stores, one for each,
 /// serves that many connections.
-pub fn serve<S: EntryStore + Send, R: Host, L: Log + Sync, W: Write + Send + Drop>(
+pub fn serve<S: MadeStore + Send, R: Host, L: Log + Sync, W: Write + Send + Drop>(
     rt: &R,
     setup: &ServerSetup<'_, L>,
     stores: Vec<S>,
@@ -97,7 +74,6 @@ pub fn serve<S: EntryStore + Send, R: Host, L: Log + Sync, W: Write + Send + Dro
     let parts = ring_parts_of(setup.alloc, setup.settings)?;
     let lines = Lines::by_number(setup.alloc, writer, connections);
     let until = Until::Connections(connections);
-    let stores = ServerStores::without_spares(setup.alloc, stores);
     serve_until(rt, setup, stores, until, lines, parts)
 }
 
@@ -129,10 +105,10 @@ fn stop_of<R: Host, L, I: Read + Send + Drop + 'static>(
     Ok(stop)
 }
 
-/// The command `serve --stay`: a ring of the plan's nodes over these stores serves until an
-/// operator stops it or the input ends, if there is one.
+/// The command `serve --stay`: a ring of the plan's nodes over these stores, one for each, serves
+/// until an operator stops it or the input ends, if there is one.
 pub fn stay<
-    S: EntryStore + Send,
+    S: MadeStore + Send,
     R: Host,
     L: Log + Sync,
     W: Write + Send + Drop,
@@ -140,7 +116,7 @@ pub fn stay<
 >(
     rt: &R,
     setup: &ServerSetup<'_, L>,
-    stores: ServerStores<S>,
+    stores: Vec<S>,
     limits: ClientLimits,
     input: Option<I>,
     writer: W,

@@ -4,11 +4,9 @@ ghost use Rattle.chord_app_serve.specs.Shown.{store_of};
 
 use crate::serving::process::process_sight;
 use crate::serving::shown::store_shown;
-use crate::serving::spares::Spares;
 use chord_app_operator::{ProcessSight, StoreKind};
 use chord_app_plan::Plan;
 use chord_app_sockets::{OperatorPort, ProcessFiles, ServerSetup, Stop};
-use chord_store::EntryStore;
 use std::hash::RandomState;
 use std::io;
 use std::net::TcpListener;
@@ -39,12 +37,11 @@ impl<'s> OperatorDoor<'s> {
     }
 }
 
-/// The plan of a server, the spare stores, since when it runs, and where its operators come in, if
-/// there is a port for them.
+/// The plan of a server, since when it runs, and where its operators come in, if there is a port
+/// for them.
 #[derive(Drop)]
-pub struct Desk<'s, S: EntryStore> {
+pub struct Desk<'s> {
     pub plan: &'s Plan,
-    pub spares: Spares<S>,
     /// None if the clock could not be read.
     began: Option<Instant>,
     /// How many identifiers were drawn for nodes that joined without one.
@@ -52,20 +49,14 @@ pub struct Desk<'s, S: EntryStore> {
     pub door: Option<OperatorDoor<'s>>,
 }
 
-impl<'s, S: EntryStore> Desk<'s, S> {
-    pub fn new<R: Clock, L>(
-        rt: &R,
-        setup: &ServerSetup<'s, L>,
-        spares: Vec<S>,
-    ) -> io::Result<Desk<'s, S>> {
-        let spares = Spares::new(setup.alloc, setup.plan.spare, spares)?;
+impl<'s> Desk<'s> {
+    pub fn new<R: Clock, L>(rt: &R, setup: &ServerSetup<'s, L>) -> io::Result<Desk<'s>> {
         let door = match setup.operator {
             Some(port) => Some(OperatorDoor::new(port)?),
             None => None,
         };
         Ok(Desk {
             plan: setup.plan,
-            spares,
             began: Instant::now(rt).ok(),
             draws: AtomicU64::new(0),
             door,
@@ -93,11 +84,11 @@ impl<'s, S: EntryStore> Desk<'s, S> {
 
     /// The kind of a node's store.
     pub fn store_of(&self, node: u64) -> StoreKind
-        ensures { result ≡ store_of self.now.plan.now.nodes.items self.now.spares.kind node }
+        ensures { result ≡ store_of self.now.plan.now node }
     {
         match self.plan.nodes.get(node as usize) {
             Some(node) => store_shown(node.store),
-            None => store_shown(self.spares.kind),
+            None => store_shown(self.plan.spare),
         }
     }
 }

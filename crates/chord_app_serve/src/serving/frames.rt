@@ -227,6 +227,8 @@ impl<'t, 's, 'r, J: Naming, S: EntryStore, R: Wait + Clock + Net, L: Log, W: Wri
 }
 
 impl<J: Naming, S: EntryStore, R, L, W> Marks for FramesHouse<'_, '_, '_, J, S, R, L, W> {
+    ghost tells = { λ _ _. Unit {0} };
+
     fn mark(&self) -> u64 {
         self.server.mark()
     }

@@ -1,13 +1,14 @@
 //! Nodes that join a server's ring.
-ghost use Rattle.std.specs.Prelude.{◌≤◌, ◌<◌, IfOk};
+ghost use Rattle.std.specs.Prelude.{◌≢◌, ◌≤◌, Err, IfOk};
+ghost use Rattle.chord_app_operator.specs.declared.operator.refusals.JoinRefusal.TheVariants as JoinRefusals;
+ghost use Rattle.chord_app_serve.specs.Made.{NoStoreIs};
 
 use crate::gap::free_id;
+use crate::serving::made_store::{MadeStore, fits_spare};
 use crate::serving::operator::RingOperator;
-use crate::serving::spares::{Spare, fits_spare};
 use chord_app_operator::{JoinRefusal, JoinRequest};
 use chord_ident::Id;
 use chord_live_types::JoinFault;
-use chord_store::EntryStore;
 use chord_table::Naming;
 use std::alloc::AllocError;
 use std::hash::{BuildHasher, Hasher};
@@ -16,7 +17,9 @@ use std::sync::atomic::Ordering;
 use std::time::Clock;
 
 /// Why a node does not join that the ring refuses.
-fn refusal_of(fault: JoinFault) -> JoinRefusal {
+fn refusal_of(fault: JoinFault) -> JoinRefusal
+    ensures { result ≢ JoinRefusals.NoStore }
+{
     match fault {
         JoinFault::Stopped => JoinRefusal::Stopped,
         JoinFault::NoSlot => JoinRefusal::NoSlot,
@@ -27,11 +30,14 @@ fn refusal_of(fault: JoinFault) -> JoinRefusal {
     }
 }
 
-impl<'t, 's, 'r, J: Naming, S: EntryStore, R: Wait + Clock> RingOperator<'t, 's, 'r, J, S, R> {
+impl<'t, 's, 'r, J: Naming, S: MadeStore, R: Wait + Clock> RingOperator<'t, 's, 'r, J, S, R> {
     /// The identifiers of the members.
     fn live_ids(&self) -> Result<Vec<Id>, AllocError> {
         let mut ids = Vec::new(self.alloc);
-        for number in 0..self.ring.node_count() {
+        for slot in 0..self.ring.slot_count() {
+            let Some(number) = self.ring.number_at(slot) else {
+                continue;
+            };
             if self.ring.is_live(number) {
                 if let Some(links) = self.ring.links_of(self.rt, number) {
                     ids.push(links.me().id)?;
@@ -53,7 +59,9 @@ impl<'t, 's, 'r, J: Naming, S: EntryStore, R: Wait + Clock> RingOperator<'t, 's,
 
     /// The identifier that the node asks for, or else a free one by the middle of the widest gap
     /// between members.
-    fn id_for(&self, request: JoinRequest) -> Result<Id, JoinRefusal> {
+    fn id_for(&self, request: JoinRequest) -> Result<Id, JoinRefusal>
+        ensures { result ≢ Err JoinRefusals.NoStore }
+    {
         if let Some(id) = request.id {
             return Ok(id);
         }
@@ -68,52 +76,39 @@ impl<'t, 's, 'r, J: Naming, S: EntryStore, R: Wait + Clock> RingOperator<'t, 's,
 
     /// The node by way of which one joins: the one that it asks for, or else the first member.
     fn via_for(&self, request: JoinRequest) -> u64 {
-        let first = || (0..self.ring.node_count()).find(|number| self.ring.is_live(*number));
-        request.via.or_else(first).unwrap_or(0)
+        if let Some(via) = request.via {
+            return via;
+        }
+        for slot in 0..self.ring.slot_count() {
+            if let Some(number) = self.ring.number_at(slot) {
+                if self.ring.is_live(number) {
+                    return number;
+                }
+            }
+        }
+        0
     }
 
-    /// Makes a node join with this store. Where it is refused the store goes back.
-    fn join_with(
-        &self,
-        request: JoinRequest,
-        spare: Spare<S>,
-    ) -> Result<u64, (JoinRefusal, Option<Spare<S>>)>
-        ensures { IfOk result (λ number. (1 ≤ number) × (number < J.name.slots)) }
+    /// Makes a node join, with a store of the plan's kind that is made for it. Who ticks the nodes
+    /// starts its worker.
+    pub fn join_one(&self, request: JoinRequest) -> Result<u64, JoinRefusal>
+        ensures number { IfOk result (λ number. 1 ≤ number) }
+        ensures store { NoStoreIs request self.now.desk.now.plan.now.spare result }
     {
+        let kind = self.desk.plan.spare;
+        if !fits_spare(request, kind) {
+            return Err(JoinRefusal::NoStore);
+        }
         let id = match self.id_for(request) {
             Ok(id) => id,
-            Err(refusal) => return Err((refusal, Some(spare))),
+            Err(refusal) => return Err(refusal),
         };
-        let via = self.via_for(request);
-        match self.ring.join(self.rt, id, via, spare.into_store()) {
+        let store = S::make(self.alloc, kind);
+        match self.ring.join(self.rt, id, self.via_for(request), store) {
             Ok(peer) => Ok(peer.number),
-            Err((fault, store)) => Err((refusal_of(fault), Spare::of(store))),
-        }
-    }
-
-    /// Makes a node join with a spare store. One node joins at a time. Who ticks the nodes starts
-    /// its worker.
-    pub fn join_one(&self, request: JoinRequest) -> Result<u64, JoinRefusal>
-        ensures { IfOk result (λ number. (1 ≤ number) × (number < self.now.ring.now.slots)) }
-    {
-        let spares = &self.desk.spares;
-        let mut stores = spares.stores.lock(self.rt);
-        if self.ring.node_count() >= self.slots() {
-            return Err(JoinRefusal::NoSlot);
-        }
-        if !fits_spare(request, spares.kind) {
-            return Err(JoinRefusal::NoStore);
-        }
-        let Some(spare) = stores.pop() else {
-            return Err(JoinRefusal::NoStore);
-        };
-        match self.join_with(request, spare) {
-            Ok(number) => Ok(number),
-            Err((refusal, back)) => {
-                if let Some(spare) = back {
-                    drop(stores.push(spare));
-                }
-                Err(refusal)
+            Err((fault, store)) => {
+                drop(store);
+                Err(refusal_of(fault))
             }
         }
     }

@@ -20,18 +20,13 @@ use std::fs::File;
 use std::sync::Wait;
 use std::sync::atomic::{AtomicBool, Ordering};
 use std::thread::Threads;
-use std::time::{Clock, Duration, Instant};
+use std::time::{Clock, Instant};
 
 /// How many callers load a journal.
 const LOADERS: u64 = 4;
 
 /// How often a change that found no memory or no answer is asked again.
 const TRIES: u64 = 100;
-
-/// How long the thread that writes sleeps at most: behind a write that failed, or else.
-const RETRY_MILLISECONDS: u64 = 100;
-
-const SYNC_MILLISECONDS: u64 = 1_000;
 
 /// The commands of a ring's changes.
 #[derive(Drop)]
@@ -202,10 +197,7 @@ impl<'r, J: Naming, S: EntryStore> ServerJournal<'r, J, S> {
     /// Has changes written up to this mark, and says up to where they may be shown. Where that is
     /// less, they are written by the thread that writes.
     pub fn settle<R: Wait>(&self, rt: &R, mark: u64) -> u64 {
-        let shown = match self.writer.rule() {
-            SyncRule::Always => self.writer.shown(),
-            SyncRule::Second | SyncRule::Never => self.writer.settle(rt, &self.source, mark),
-        };
+        let shown = self.writer.settle(rt, &self.source, mark);
         if shown < mark {
             self.ring(rt);
         }
@@ -239,7 +231,7 @@ impl<'r, J: Naming, S: EntryStore> ServerJournal<'r, J, S> {
         Ok(loaders)
     }
 
-    /// Asks the changes of the file of the ring. Behind them the journal begins.
+    /// Asks the changes of the file of the ring. After them the journal begins.
     pub fn load<R: Threads + Wait + Clock + Sync, L: Log>(
         &self,
         rt: &R,
@@ -268,24 +260,13 @@ impl<'r, J: Naming, S: EntryStore> ServerJournal<'r, J, S> {
     /// Sleeps until one who waits rings, or a write or a sync is due. Says whether more is to be
     /// written: not if it was ended, or its file is lost.
     pub fn rest<R: Wait + Clock>(&self, rt: &R) -> bool {
-        let longest = match self.writer.trouble() {
-            Trouble::Refuses => RETRY_MILLISECONDS,
-            Trouble::None | Trouble::Lost => SYNC_MILLISECONDS,
-        };
-        let _ = self
-            .heard
-            .recv_timeout(rt, Duration::from_millis(longest))
-            .is_ok();
+        let _ = self.heard.recv_timeout(rt, self.writer.pause()).is_ok();
         !self.is_over.load(Ordering::SeqCst) && self.writer.trouble() != Trouble::Lost
     }
 
     /// Writes and syncs what is due. Says whether those who wait are to look.
     pub fn round<R: Wait>(&self, rt: &R) -> bool {
-        let (shown, trouble) = (self.writer.shown(), self.writer.trouble());
-        if self.writer.rule() != SyncRule::Never || trouble == Trouble::Refuses {
-            let _ = self.conclude(rt);
-        }
-        self.writer.shown() != shown || self.writer.trouble() != trouble
+        self.writer.round(rt, &self.source)
     }
 
     /// Whether nothing can be written or synced any more, though each answer waits for that.

@@ -1,6 +1,7 @@
 //! The connections of operators.
 
 use crate::serving::desk::OperatorDoor;
+use crate::serving::made_store::MadeStore;
 use crate::serving::operator::RingOperator;
 use crate::serving::server::Server;
 use chord_app_loop::{OperatorGate, OperatorLimits, OperatorLoop, Reception};
@@ -29,7 +30,7 @@ struct OperatorHouse<'t, 's, 'r, J: Naming, S: EntryStore, R, L, W> {
     port: u16,
 }
 
-impl<'t, 's, 'r, J: Naming, S: EntryStore, R: Wait + Clock + Net, L: Log, W: Write> Reception<
+impl<'t, 's, 'r, J: Naming, S: MadeStore, R: Wait + Clock + Net, L: Log, W: Write> Reception<
     RingOperator<'t, 's, 'r, J, S, R>,
 > for OperatorHouse<'t, 's, 'r, J, S, R, L, W> {
     fn receive(&self) -> Option<OperatorService<RingOperator<'t, 's, 'r, J, S, R>>> {
@@ -64,7 +65,7 @@ impl<'s, 'r, J: Naming, S: EntryStore, R: Wait + Clock + Net, L: Log, W: Write> 
     }
 }
 
-impl<'s, 'r, J: Naming, S: EntryStore, R: Host, L: Log, W: Write> Server<'s, 'r, J, S, R, L, W> {
+impl<'s, 'r, J: Naming, S: MadeStore, R: Host, L: Log, W: Write> Server<'s, 'r, J, S, R, L, W> {
     /// Serves operators, until the server ends.
     fn operate(&self, door: &OperatorDoor<'_>) {
         let house = OperatorHouse {

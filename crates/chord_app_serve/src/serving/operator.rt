@@ -1,12 +1,14 @@
 //! The operator of a server's ring.
-ghost use Rattle.std.specs.Prelude.{◌≡◌, ◌≢◌, false, Err, IfOk, IfSome};
+ghost use Rattle.std.specs.Prelude.{◌≡◌, ◌≢◌, false, Err, IfOk, IfSome, OnOk};
 ghost use Rattle.chord_app_operator.specs.declared.operator.refusals.CrashRefusal.TheVariants as CrashRefusals;
 ghost use Rattle.chord_app_serve.specs.Shown.{store_of, AreShown, IsShownAs, Tells};
 
 use crate::serving::caller_pool::CallerPool;
 use crate::serving::desk::Desk;
+use crate::serving::made_store::MadeStore;
 use crate::serving::request_tally::RequestTally;
 use crate::serving::sessions::Sessions;
+use crate::serving::shown::holder_with;
 use crate::serving::tally::Tally;
 use chord_app_operator::{
     ByteCounts, CallerCounts, CrashRefusal, CrashRequest, HealthSight, Holder, JoinRefusal,
@@ -37,21 +39,14 @@ pub struct RingOperator<'t, 's, 'r, J: Naming, S: EntryStore, R> {
     pub tally: &'t Tally,
     pub requests: &'t RequestTally,
     pub until: Until<'s>,
-    pub desk: &'t Desk<'s, S>,
+    pub desk: &'t Desk<'s>,
 }
 
 impl<'t, 's, 'r, J: Naming, S: EntryStore, R: Wait + Clock> RingOperator<'t, 's, 'r, J, S, R> {
-    /// How many nodes there may ever be.
-    pub fn slots(&self) -> u64
-        ensures value { result ≡ self.now.ring.now.slots }
-        ensures named { J.name.slots ≡ self.now.ring.now.slots }
-    {
-        self.ring.settings().slots as u64
-    }
-
-    /// A node as it looks now, if it was admitted.
+    /// A node as it looks now, if it has a slot.
     fn node_at(&self, alloc: Global, number: u64) -> Result<Option<StoredNode>, AllocError>
-        ensures { IfOk result (λ found. IfSome found (IsShownAs number (store_of self.now.desk.now.plan.now.nodes.items self.now.desk.now.spares.kind number))) }
+        ensures { IfOk result (λ found.
+            IfSome found (IsShownAs number (store_of self.now.desk.now.plan.now number))) }
     {
         let Some(sight) = self.ring.sight(self.rt, alloc, number)? else {
             return Ok(None);
@@ -60,25 +55,45 @@ impl<'t, 's, 'r, J: Naming, S: EntryStore, R: Wait + Clock> RingOperator<'t, 's,
         Ok(Some(StoredNode { sight, store }))
     }
 
-    /// The nodes that there are, by number, each as it looks now.
+    /// Shows the node in a slot behind the others, if there is one.
+    #[tactic(auto, using(crate::proofs::Showing::shown_more))]
+    fn show_slot(
+        &self,
+        alloc: Global,
+        slot: u64,
+        nodes: &mut Vec<StoredNode>,
+    ) -> Result<(), AllocError>
+        requires { AreShown (store_of self.now.desk.now.plan.now) nodes.old.items }
+        ensures { OnOk result (AreShown (store_of self.now.desk.now.plan.now) nodes.new.items) }
+    {
+        let Some(number) = self.ring.number_at(slot) else {
+            return Ok(());
+        };
+        if let Some(node) = self.node_at(alloc, number)? {
+            nodes.push(node)?;
+        }
+        Ok(())
+    }
+
+    /// The nodes that have slots, in the order of these, each as it looks now.
     fn nodes(&self, alloc: Global) -> Result<Vec<StoredNode>, AllocError>
-        ensures { IfOk result (λ nodes. AreShown (store_of self.now.desk.now.plan.now.nodes.items self.now.desk.now.spares.kind) nodes.items) }
+        ensures { IfOk result (λ nodes.
+            AreShown (store_of self.now.desk.now.plan.now) nodes.items) }
     {
         let mut nodes = Vec::new(alloc);
-        for number in 0..self.ring.node_count() {
-            let Some(node) = self.node_at(alloc, number)? else {
-                return Ok(nodes);
-            };
-            nodes.push(node)?;
+        for slot in 0..self.ring.slot_count() {
+            self.show_slot(alloc, slot, &mut nodes)?;
         }
         Ok(nodes)
     }
 
     /// Whether a node is staying.
     fn has_node(&self) -> bool {
-        for number in 0..self.ring.node_count() {
-            if self.ring.phase_of(self.rt, number) == Some(Phase::Staying) {
-                return true;
+        for slot in 0..self.ring.slot_count() {
+            if let Some(number) = self.ring.number_at(slot) {
+                if self.ring.phase_of(self.rt, number) == Some(Phase::Staying) {
+                    return true;
+                }
             }
         }
         false
@@ -121,16 +136,19 @@ impl<'t, 's, 'r, J: Naming, S: EntryStore, R: Wait + Clock> RingOperator<'t, 's,
     }
 }
 
-impl<'t, 's, 'r, J: Naming, S: EntryStore, R: Wait + Clock + Net> Operator
+impl<'t, 's, 'r, J: Naming, S: MadeStore, R: Wait + Clock + Net> Operator
     for RingOperator<'t, 's, 'r, J, S, R> {
-    ghost answers = { λ old question answer new. (new ≡ old) × Tells old.ring.now (store_of old.desk.now.plan.now.nodes.items old.desk.now.spares.kind) question answer };
+    ghost answers = { λ old question answer new.
+        (new ≡ old) × Tells old.ring.now old.desk.now.plan.now question answer };
 
     fn sight(&mut self, alloc: Global) -> Result<RingSight, AllocError> {
+        let ever = self.ring.node_count();
         let nodes = self.nodes(alloc)?;
         let settings = self.ring.settings();
         Ok(RingSight {
             successors: settings.successors as u64,
             slots: settings.slots as u64,
+            ever,
             premise: self.ring.holds_premise(self.rt),
             callers: CallerCounts {
                 open: self.pool.serving(),
@@ -148,6 +166,7 @@ impl<'t, 's, 'r, J: Naming, S: EntryStore, R: Wait + Clock + Net> Operator
             },
             process: self.desk.process(),
             uptime_ms: self.desk.uptime_ms(self.rt),
+            past_forwards: self.ring.past_forwards(),
             nodes,
         })
     }
@@ -190,13 +209,13 @@ impl<'t, 's, 'r, J: Naming, S: EntryStore, R: Wait + Clock + Net> Operator
     /// before a handover of it.
     fn holder(&mut self, id: Id) -> Holder {
         let mut found = Holder::Moved;
-        for number in 0..self.ring.node_count() {
-            match self.ring.holding(self.rt, number, id) {
-                Some(chord_model::Holder::Node(node)) => return Holder::Node(node),
-                Some(chord_model::Holder::UnderWay { from, to, number }) => {
-                    found = Holder::Handover { from, to, number };
-                }
-                None => {}
+        for slot in 0..self.ring.slot_count() {
+            let Some(node) = self.ring.number_at(slot) else {
+                continue;
+            };
+            found = holder_with(found, self.ring.holding(self.rt, node, id));
+            if let Holder::Node(_) = found {
+                return found;
             }
         }
         found

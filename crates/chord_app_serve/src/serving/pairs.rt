@@ -1,6 +1,6 @@
 //! The pairs of a ring as its operator reads them.
 ghost use Rattle.std.specs.Prelude.{◌≡◌, map, max, IfOk, IfSome};
-ghost use Rattle.chord_app_serve.specs.ReadPairs.{first_of, operator_look, placed_look, rest_behind, segment_span, item_span, HasSpan, IsLostBy, IsLost, IsReadAt, IsEmptyAt, IsRead, ShowsPage};
+ghost use Rattle.chord_app_serve.specs.ReadPairs.{first_of, operator_look, placed_look, is_stuck, rest_behind, segment_span, item_span, HasSpan, IsLostBy, IsLost, IsReadAt, IsEmptyAt, IsRead, ShowsPage};
 
 use crate::serving::operator::RingOperator;
 use chord_app_operator::{PageState, Pair, PairsPage, PairsRequest};
@@ -99,6 +99,18 @@ fn given_handover(sight: &NodeSight, first: Id) -> Option<OutboxSight>
     handover_with(&sight.outbox, first)
 }
 
+// Whether a handover between these will not end: its giver crashed, or its receiver, which has no
+// phase then.
+fn is_stuck(giver: Phase, receiver: Option<chord_model::Phase>) -> bool
+    ensures { result ≡ is_stuck giver receiver }
+{
+    match (giver, receiver) {
+        (Phase::Crashed, _) => true,
+        (_, None) => true,
+        (_, Some(_)) => false,
+    }
+}
+
 // The span with the identifier that a node lost when it crashed.
 fn lost_segment(sight: &NodeSight, first: Id) -> Option<Span>
     ensures { IfSome result (IsLostBy sight.now first) }
@@ -120,7 +132,10 @@ impl<'t, 's, 'r, J: Naming, S: EntryStore, R: Wait + Clock> RingOperator<'t, 's,
     {
         let first = first_of(request);
         let limit = request.limit.max(1);
-        for number in 0..self.ring.node_count() {
+        for slot in 0..self.ring.slot_count() {
+            let Some(number) = self.ring.number_at(slot) else {
+                continue;
+            };
             if let Some(page) = self.ring.pairs_from(self.rt, alloc, number, first, limit)? {
                 let shown = page_shown(alloc, &page)?;
                 drop(page);
@@ -136,7 +151,7 @@ impl<'t, 's, 'r, J: Naming, S: EntryStore, R: Wait + Clock> RingOperator<'t, 's,
         ensures { IfSome result (IsLostBy sight.now first) }
     {
         let item = given_handover(sight, first)?;
-        if sight.phase == Phase::Crashed || self.ring.phase_of(self.rt, item.to) == None {
+        if is_stuck(sight.phase, self.ring.phase_of(self.rt, item.to)) {
             Some(item.span)
         } else {
             None
@@ -168,7 +183,10 @@ impl<'t, 's, 'r, J: Naming, S: EntryStore, R: Wait + Clock> RingOperator<'t, 's,
         ensures { IfOk result (λ found. IfSome found (IsLost first)) }
     {
         let mut lost = None;
-        for number in 0..self.ring.node_count() {
+        for slot in 0..self.ring.slot_count() {
+            let Some(number) = self.ring.number_at(slot) else {
+                continue;
+            };
             let (segment, handover) = self.lost_at(alloc, number, first)?;
             if segment.is_some() {
                 return Ok(segment);

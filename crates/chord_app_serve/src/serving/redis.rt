@@ -33,6 +33,8 @@ pub struct RedisHouse<'t, 's, 'r, J: Naming, S: EntryStore, R, L, W> {
 }
 
 impl<J: Naming, S: EntryStore, R, L, W> Marks for RedisHouse<'_, '_, '_, J, S, R, L, W> {
+    ghost tells = { λ _ _. Unit {0} };
+
     fn mark(&self) -> u64 {
         self.server.mark()
     }

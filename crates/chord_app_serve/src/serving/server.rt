@@ -3,12 +3,12 @@ ghost use Rattle.std.specs.Prelude.{◌≡◌, IfOk};
 ghost use Rattle.chord_app_serve.specs.Whole.{StandsWhole};
 
 use crate::serving::caller_pool::CallerPool;
-use crate::serving::commands::ServerStores;
 use crate::serving::desk::Desk;
 use crate::serving::frames::{FramesHouse, RingFrames};
 use crate::serving::idle::IdleCaller;
 use crate::serving::info::Told;
 use crate::serving::journal::ServerJournal;
+use crate::serving::made_store::MadeStore;
 use crate::serving::redis::{RedisHouse, RingCommands};
 use crate::serving::request_tally::RequestTally;
 use crate::serving::reserved::Reserved;
@@ -55,7 +55,7 @@ pub struct Server<'s, 'r, J: Naming, S: EntryStore, R, L, W> {
     pub until: Until<'s>,
     /// How many connections of clients got a number, at all doors.
     numbers: AtomicU64,
-    pub desk: Desk<'s, S>,
+    pub desk: Desk<'s>,
     /// Of connections that wrote what a web page can make a browser write.
     foreign_warnings: OncePerSecond,
     /// Of connections that could not be accepted.
@@ -383,7 +383,7 @@ impl<
     's: 'c,
     'r: 's,
     J: Naming + Send + Sync + 'r,
-    S: EntryStore + Send + 'r,
+    S: MadeStore + Send + 'r,
     R: Host,
     L: Log + Sync + 's,
     W: Write + Send + 's,
@@ -539,7 +539,7 @@ fn serve_houses<
     's: 'c,
     'r: 's,
     J: Naming + Send + Sync,
-    S: EntryStore + Send,
+    S: MadeStore + Send,
     R: Host,
     L: Log + Sync,
     W: Write + Send,
@@ -586,7 +586,7 @@ fn serve_clients<
     's: 'c,
     'r: 's,
     J: Naming + Send + Sync,
-    S: EntryStore + Send,
+    S: MadeStore + Send,
     R: Host,
     L: Log + Sync,
     W: Write + Send,
@@ -612,25 +612,28 @@ fn conclude<J: Naming, S: EntryStore>(
     let count = callers.len();
     let closed = ring.close_with(callers);
     if closed.is_whole {
-        Ok(WholeRing { callers: count })
+        Ok(WholeRing {
+            nodes: closed.nodes,
+            callers: count,
+        })
     } else {
         Err(Finish::OutOfMemory)
     }
 }
 
-/// What a server serves with: its stores, until when, where it writes how connections ended, and
-/// where it counts requests.
+/// What a server serves with: a store for each node of the plan, until when, where it writes how
+/// connections ended, and where it counts requests.
 #[derive(Drop)]
 pub struct Serving<'a, S: EntryStore, R, L, W> {
     pub rt: &'a R,
     pub setup: &'a ServerSetup<'a, L>,
-    pub stores: ServerStores<S>,
+    pub stores: Vec<S>,
     pub until: Until<'a>,
     pub lines: &'a Lines<W>,
     pub requests: &'a RequestTally,
 }
 
-impl<S: EntryStore + Send, R: Host, L: Log + Sync, W: Write + Send> Serving<'_, S, R, L, W> {
+impl<S: MadeStore + Send, R: Host, L: Log + Sync, W: Write + Send> Serving<'_, S, R, L, W> {
     /// Serves with this ring, and gives the callers that served.
     fn serve_with<J: Naming + Send + Sync>(
         self,
@@ -651,8 +654,7 @@ impl<S: EntryStore + Send, R: Host, L: Log + Sync, W: Write + Send> Serving<'_, 
             requests,
         };
         let pool = CallerPool::new(setup.alloc, ring, until.keeps_callers())?;
-        let ServerStores { nodes, spares } = stores;
-        let desk = Desk::new(rt, setup, spares)?;
+        let desk = Desk::new(rt, setup)?;
         let journal = match &setup.journal {
             Some(journal) => Some(ServerJournal::new(setup.alloc, ring, journal).ok_or(
                 Finish::OutOfMemory,
@@ -681,7 +683,7 @@ impl<S: EntryStore + Send, R: Host, L: Log + Sync, W: Write + Send> Serving<'_, 
             ring,
             clients: &server.clients,
         };
-        let served = serve_clients(&server, &told, setup, nodes);
+        let served = serve_clients(&server, &told, setup, stores);
         server.drop_sessions();
         let callers = server.pool.into_callers(setup.alloc);
         served?;

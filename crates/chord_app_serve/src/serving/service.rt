@@ -56,8 +56,7 @@ impl<'r, J: Naming, S: EntryStore, R: Wait + Clock> Service<'r, J, S, R> {
     {
         let (rt, ring) = (self.rt, self.ring);
         Workers { rt, ring, scope }.start_nodes(nodes, stores)?;
-        let first_nodes = nodes.len() as u64;
-        match scope.spawn(move || Workers { rt, ring, scope }.tick_in_turn(first_nodes)) {
+        match scope.spawn(move || Workers { rt, ring, scope }.tick_in_turn()) {
             Ok(_) => Ok(()),
             Err(_) => Err(Finish::OutOfMemory),
         }

@@ -64,6 +64,13 @@ fn is_refusal(ended: &Ended) -> bool
     }
 }
 
+/// The counts of sessions with this number of those that are kept.
+fn with_kept(sessions: SessionCounts, kept: u64) -> SessionCounts
+    ensures { result ≡ record sessions { kept = kept } }
+{
+    SessionCounts { kept, ..sessions }
+}
+
 impl Tally {
     pub fn new() -> Tally {
         Tally {
@@ -100,7 +107,6 @@ impl Tally {
 
     /// The counts of sessions, with the number of those that are kept now.
     pub fn sessions(&self, rt: &impl Wait, kept: u64) -> SessionCounts {
-        let sessions = *self.sessions.lock(rt);
-        SessionCounts { kept, ..sessions }
+        with_kept(*self.sessions.lock(rt), kept)
     }
 }

@@ -10,7 +10,8 @@ use std::time::{Clock, Duration};
 pub const STOPS: &str = "POST /stop > 202 Accepted";
 
 /// A line `METHOD PATH | FIELD | {BODY} > STATUS | HAS`. Field and body may be left out, and so may
-/// what the answer has somewhere, in which `\r` and `\n` stand for these bytes.
+/// what the answer has somewhere, in which `\r` and `\n` stand for these bytes. Behind `!` stands
+/// what it does not have.
 #[derive(Clone, Copy)]
 struct Call {
     line: &'static str,
@@ -18,20 +19,24 @@ struct Call {
     body: &'static str,
     status: &'static str,
     has: &'static str,
+    /// Whether the answer does not have that.
+    is_without: bool,
 }
 
 impl Call {
     /// None of a line of another form.
     fn of(text: &'static str) -> Option<Call> {
         let (asked, due) = text.split_once(" > ")?;
-        let (status, has) = due.split_once(" | ").unwrap_or((due, ""));
+        let (status, told) = due.split_once(" | ").unwrap_or((due, ""));
+        let is_without = told.starts_with("!");
         let mut parts = asked.split(" | ");
         let mut call = Call {
             line: parts.next()?,
             field: "",
             body: "",
             status,
-            has,
+            has: told.strip_prefix("!").unwrap_or(told),
+            is_without,
         };
         for part in parts {
             if part.starts_with('{') {
@@ -96,7 +101,9 @@ impl Call {
         let has = self.wanted(alloc)?;
         Ok(
             got.starts_with(begins.as_bytes())
-                && (has.is_empty() || got.windows(has.len()).any(|part| part == has.as_slice())),
+                && (has.is_empty()
+                    || got.windows(has.len()).any(|part| part == has.as_slice())
+                        != self.is_without),
         )
     }
 }

@@ -14,8 +14,8 @@ use std::test::Fail;
 use std::time::Clock;
 use std::{io, thread};
 
-/// The ring has three slots more than nodes, and spare trees. The identifier of `abc` begins with
-/// a9.
+/// The ring has three slots more than nodes, and nodes that join have trees. The identifier of
+/// `abc` begins with a9.
 const OPERATED: &str = r#"
 # Nodes that do not join.
 POST /nodes | {"store":"list"} > 409 Conflict | {"refused":"NoStore"}
@@ -29,14 +29,25 @@ GET /ring > 200 OK | "slots":5,
 GET /metrics > 200 OK | chord_nodes{phase="staying"} 3\n
 # Node 2 leaves, and the key goes on to node 1.
 POST /nodes/2/leave > 202 Accepted | {"node":2}
-GET /metrics > 200 OK | chord_nodes{phase="gone"} 1\n
+GET /metrics > 200 OK | \nchord_nodes_gone_total 1\n
+GET /ring?all > 200 OK | "phase":"gone"
 GET /holder/abc > 200 OK | "node":1}
-# Two nodes join that name no identifier. Then all slots are taken.
+# Two nodes join that name no identifier. The members are at 4 and 31 zeros and at c and 31 zeros,
+# since node 2 has gone: each of the two is in the second half of the gap between them, one way
+# round or the other, by its middle, where a draw says.
 POST /nodes > 201 Created | {"node":3}
 GET /metrics > 200 OK | chord_segments{node="3"} 1\n
 POST /nodes > 201 Created | {"node":4}
-POST /nodes > 409 Conflict | {"refused":"NoSlot"}
+GET /ring > 200 OK | "id":"8
+GET /ring > 200 OK | "id":"0
+GET /ring > 200 OK | !"id":"80000000000000000000000000000000"
+GET /ring > 200 OK | !"id":"00000000000000000000000000000000"
 GET /metrics > 200 OK | chord_segments{node="4"} 1\n
+# The next one gets the slot of node 2, which is gone. Then all slots are taken.
+POST /nodes > 201 Created | {"node":5}
+GET /metrics > 200 OK | chord_segments{node="5"} 1\n
+POST /nodes > 409 Conflict | {"refused":"NoSlot"}
+POST /nodes | {"store":"list"} > 409 Conflict | {"refused":"NoStore"}
 # Node 0, which holds nothing of `abc`, crashes once the ring stands without it.
 POST /nodes/0/crash > 200 OK | {"node":0}
 GET /metrics > 200 OK | chord_nodes{phase="crashed"} 1\n
@@ -156,8 +167,9 @@ fn joined_of(played: Played<Joined>) -> Option<(bool, Joined)> {
     Some((is_well, joined))
 }
 
-/// A node joins and gets the key that is asked for, leaves and is gone, two more join, and one
-/// crashes that holds another key: each request is answered as if nothing had happened.
+/// A node joins and gets the key that is asked for, leaves and is gone, three more join, of which
+/// one gets its slot, and one crashes that holds another key: each request is answered as if
+/// nothing had happened.
 #[test]
 fn nodes_come_and_go_while_clients_ask(rt: HostRuntime) -> Result<(), Fail> {
     let size = Size {

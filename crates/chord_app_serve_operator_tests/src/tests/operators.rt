@@ -2,9 +2,10 @@
 
 use crate::tests::calls::{STOPS, each_is_answered};
 use chord_app_serve_testkit::{
-    Act, Acts, Addresses, Answer, Ask, Found, GOOD, Handle, SMALL, Size, WAITS, do_acts, look_at,
-    stay_beside,
+    Act, Acts, Addresses, Answer, Ask, Found, GOOD, Handle, SMALL, Size, Speech, WAITS, do_acts_at,
+    look_at, stay_beside,
 };
+use chord_app_sockets::ClientLimits;
 use log::sink::Discard;
 use std::alloc::Global;
 use std::hash::RandomState;
@@ -21,6 +22,7 @@ GET / > 200 OK | content-type: text/html
 GET /ring > 200 OK | "slots":2,"successors":3,
 GET /ring > 200 OK | "callers":{"all":2,"open":0,"pending":0}
 GET /ring > 200 OK | "node":1,"outbox":[],"pairs":0
+GET /ring > 200 OK | !"uptime_ms":0}
 GET /metrics > 200 OK | chord_nodes{phase="staying"} 2\n
 GET /holder/abc > 200 OK | {"id":"a9993e364706816aba3e25717850c26c","node":1}
 POST /nodes > 409 Conflict | {"refused":"NoSlot"}
@@ -48,14 +50,18 @@ GET /ring > 200 OK | "callers":{"all":2,"open":2,"pending":0},"connections":2,
 GET /ready > 503 Service Unavailable | \r\n\r\nno caller is free\n
 GET /health > 200 OK | \r\n\r\nok\n
 POST /nodes/1/leave > 202 Accepted | {"node":1}
-GET /ring > 200 OK | "phase":"gone"
+GET /ring?all > 200 OK | "phase":"gone"
+GET /ring > 200 OK | ],"nodes_gone":1,"premise":true,
 POST /nodes/1/leave > 409 Conflict | {"refused":"NotStaying"}
 POST /nodes/1/crash > 409 Conflict | {"refused":"NotLive"}
 GET /holder/abc > 200 OK | {"id":"a9993e364706816aba3e25717850c26c","node":0}
 "#;
 
-/// The last node crashes, though the ring does not stand without it.
+/// The last node leaves, and there is none to which it could give what it holds. It crashes, though
+/// the ring does not stand without it.
 const CRASH: &str = r#"
+POST /nodes/0/leave > 202 Accepted | {"node":0}
+GET /health > 503 Service Unavailable | \r\n\r\nno node is staying\n
 POST /nodes/0/crash > 409 Conflict | {"refused":"Unsafe"}
 POST /nodes/0/crash | {"force":true} > 200 OK | {"node":0}
 GET /ring > 200 OK | "phase":"crashed"
@@ -97,24 +103,24 @@ fn operate<R: Net + Clock>(rt: &R, alloc: Global, at: Addresses, steps: &[Step])
     for step in steps {
         match step {
             Step::Operator(calls) => each_is_answered(rt, alloc, at.operator, calls)?,
-            Step::Clients(acts) => do_acts(rt, alloc, at.frames, &mut streams, acts)?,
+            Step::Clients(acts) => do_acts_at(rt, alloc, at, &mut streams, acts)?,
         }
     }
     Ok(())
 }
 
-/// What is found at a server of this size, with an operator's port, once these steps are done. It
-/// is to write these lines.
+/// What is found at a server of this size and with these limits, with an operator's port, once
+/// these steps are done. It is to write these lines.
 fn operated<R: Handle + Net<Listener = TcpListener, Stream = TcpStream>>(
     rt: &R,
     alloc: Global,
-    (size, keys): (Size, RandomState),
+    (size, limits, keys): (Size, ClientLimits, RandomState),
     steps: &'static [Step],
     pipe: (PipeReader, PipeWriter),
     lines: &str,
 ) -> Option<Found> {
     let operator = Some(keys);
-    let server = (Size { operator, ..size }, WAITS);
+    let server = (Size { operator, ..size }, limits);
     let played = stay_beside(rt, alloc, server, &Discard, pipe, |at| {
         operate(rt, alloc, at, steps)
     });
@@ -141,7 +147,7 @@ const TO_THE_STOP: &[Step] = &[
 /// Each call is answered, a node leaves and one crashes, and a stop ends the server.
 #[test]
 fn an_operator_of_a_ring(rt: HostRuntime) -> Result<(), Fail> {
-    let server = (TWO_CALLERS, RandomState::new(&rt)?);
+    let server = (TWO_CALLERS, WAITS, RandomState::new(&rt)?);
     let lines = "connection 1 ended\nconnection 0 ended\n";
     let pipe = io::pipe(&rt)?;
     let found = operated(&rt, rt.alloc(), server, TO_THE_STOP, pipe, lines);
@@ -200,7 +206,7 @@ fn a_connection_asks_at_the_node_of_its_number(rt: HostRuntime) -> Result<(), Fa
         callers: 3,
         ..SMALL
     };
-    let server = (size, RandomState::new(&rt)?);
+    let server = (size, WAITS, RandomState::new(&rt)?);
     let lines = "connection 0 ended\nconnection 1 ended\nconnection 2 ended\n";
     let pipe = io::pipe(&rt)?;
     let found = operated(&rt, rt.alloc(), server, AT_THEIR_NODES, pipe, lines);
@@ -240,7 +246,7 @@ POST /nodes/0/rescue > 409 Conflict | {"refused":"NotCrashed"}
 POST /nodes/2/rescue > 404 Not Found | {"refused":"NoSuchNode"}
 POST /nodes/1/rescue > 202 Accepted | {"node":1}
 GET /holder/abc > 200 OK | "node":0}
-GET /metrics > 200 OK | chord_nodes{phase="gone"} 1\n
+GET /metrics > 200 OK | \nchord_nodes_gone_total 1\n
 POST /nodes/1/rescue > 409 Conflict | {"refused":"NotCrashed"}
 "#;
 
@@ -299,7 +305,7 @@ fn a_stop_ends_a_stuck_request(rt: HostRuntime) -> Result<(), Fail> {
         tries: 1_000,
         ..TWO_CALLERS
     };
-    let server = (size, RandomState::new(&rt)?);
+    let server = (size, WAITS, RandomState::new(&rt)?);
     let pipe = io::pipe(&rt)?;
     let lines = "connection 0 ended\n";
     let found = operated(&rt, rt.alloc(), server, STOPPED_WITH_A_REQUEST, pipe, lines);
@@ -343,7 +349,7 @@ fn a_stop_ends_a_rescue_and_a_silent_client(rt: HostRuntime) -> Result<(), Fail>
         room: 1,
         ..TWO_CALLERS
     };
-    let server = (size, RandomState::new(&rt)?);
+    let server = (size, WAITS, RandomState::new(&rt)?);
     let pipe = io::pipe(&rt)?;
     let lines = "connection 0 ended\nconnection 1 ended\n";
     let found = operated(&rt, rt.alloc(), server, STOPPED_AMID_A_RESCUE, pipe, lines);
@@ -358,10 +364,96 @@ fn a_key_of_a_crashed_node_gets_fault_11(rt: HostRuntime) -> Result<(), Fail> {
         tries: 1,
         ..TWO_CALLERS
     };
-    let server = (size, RandomState::new(&rt)?);
+    let server = (size, WAITS, RandomState::new(&rt)?);
     let lines = "connection 1 ended\nconnection 0 ended\n";
     let pipe = io::pipe(&rt)?;
     let found = operated(&rt, rt.alloc(), server, BEHIND_A_CRASH, pipe, lines);
+    assert!(rt; found == Some(GOOD), "{found:?}");
+    Ok(())
+}
+
+/// INFO tells of both nodes, of which node 1 crashed, and each holds its part of the circle.
+const INFO_BEHIND_A_CRASH: Act = Act::Exchange(
+    b"INFO\r\n",
+    b"$157\r\n# Server\r\nserver:chord\r\nprotocol:2\r\n# Clients\r\nconnected_clients:1\r\n# Nodes\r\nnode0:phase=staying,pairs=0,segments=1\r\nnode1:phase=crashed,pairs=0,segments=1\r\n\r\n",
+);
+
+const TOLD_OF_A_CRASH: &[Step] = &[
+    Step::Operator(HOLDERS),
+    Step::Operator(NODE_1_CRASHES),
+    Step::Clients(&[
+        (0, Act::ConnectRedis),
+        (0, INFO_BEHIND_A_CRASH),
+        (0, Act::Leave),
+    ]),
+];
+
+#[test]
+fn info_tells_of_a_crashed_node(rt: HostRuntime) -> Result<(), Fail> {
+    let size = Size {
+        speech: Speech::Both,
+        ..SMALL
+    };
+    let server = (size, WAITS, RandomState::new(&rt)?);
+    let pipe = io::pipe(&rt)?;
+    let lines = "connection 0 ended\n";
+    let found = operated(&rt, rt.alloc(), server, TOLD_OF_A_CRASH, pipe, lines);
+    assert!(rt; found == Some(GOOD), "{found:?}");
+    Ok(())
+}
+
+/// Fault 14, of a session that is not kept.
+const FAULT_14: &[u8] = b"\x00\x00\x00\x0b\x01\xff\x00\x00\x00\x00\x00\x00\x00\x00\x0e";
+
+/// A session is kept, which went on before, and another client was refused. Once the session is old
+/// enough, the server is ready for one more client.
+const ONE_SESSION_IS_KEPT: &str = r#"
+GET /metrics > 200 OK | chord_sessions_kept 1\n
+GET /metrics > 200 OK | chord_sessions_total{kind="resumed"} 1\n
+GET /metrics > 200 OK | chord_sessions_total{kind="dropped"} 0\n
+GET /metrics > 200 OK | chord_sessions_total{kind="refused"} 1\n
+GET /ready > 200 OK | \r\n\r\nok\n
+"#;
+
+/// The session was dropped for its caller, who serves nobody now.
+const ONE_SESSION_WAS_DROPPED: &str = r#"
+GET /metrics > 200 OK | chord_sessions_kept 0\n
+GET /metrics > 200 OK | chord_sessions_total{kind="resumed"} 1\n
+GET /metrics > 200 OK | chord_sessions_total{kind="dropped"} 1\n
+GET /metrics > 200 OK | chord_sessions_total{kind="refused"} 1\n
+GET /ring > 200 OK | "callers":{"all":1,"open":0,"pending":0},"connections":0,
+"#;
+
+const SESSIONS: &[Step] = &[
+    Step::Clients(&[
+        (0, Act::Begin(1)),
+        (0, Act::CallIn(1, 0, Ask::Insert(b"x"), Answer::Added)),
+        (0, Act::Leave),
+        (1, Act::Resume(1, 0, 1)),
+        (1, Act::Leave),
+        (2, Act::Connect),
+        (2, Act::Open(2, true)),
+        (2, Act::HearBytes(FAULT_14)),
+        (2, Act::End),
+    ]),
+    Step::Operator(ONE_SESSION_IS_KEPT),
+    Step::Clients(&[
+        (3, Act::Connect),
+        (3, Act::Call(1, Ask::Insert(b"x"), Answer::Present)),
+        (3, Act::Leave),
+    ]),
+    Step::Operator(ONE_SESSION_WAS_DROPPED),
+];
+
+/// What becomes of the sessions of a server of one caller, which keeps them for a second.
+#[test]
+fn sessions_are_counted(rt: HostRuntime) -> Result<(), Fail> {
+    let limits = ClientLimits { keep: 1, ..WAITS };
+    let server = (SMALL, limits, RandomState::new(&rt)?);
+    let pipe = io::pipe(&rt)?;
+    let lines =
+        "connection 0 ended\nconnection 1 ended\nconnection 2 malformed 14\nconnection 3 ended\n";
+    let found = operated(&rt, rt.alloc(), server, SESSIONS, pipe, lines);
     assert!(rt; found == Some(GOOD), "{found:?}");
     Ok(())
 }

@@ -2,7 +2,7 @@
 
 use chord_app_journal::{SyncRule, open_journal};
 use chord_app_plan::Plan;
-use chord_app_serve::{ServerStores, stay};
+use chord_app_serve::stay;
 use chord_app_serve_testkit::{Handle, WAITS, bound, expect, expect_end, plan_with, two_stores};
 use chord_app_sockets::{Doors, Host, JournalSetup, ServerSetup};
 use chord_app_text::Finish;
@@ -57,7 +57,7 @@ fn stay_over_journal<'a, R: Host>(
     listener: &'a TcpListener,
     journal: JournalSetup<'a>,
 ) -> Result<(), Finish> {
-    let stores = ServerStores::without_spares(alloc, two_stores(alloc, 8)?);
+    let stores = two_stores(alloc, 8)?;
     let setup = ServerSetup {
         alloc,
         plan,

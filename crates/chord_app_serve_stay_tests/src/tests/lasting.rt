@@ -119,3 +119,28 @@ fn an_old_session_is_kept_while_nobody_needs_its_caller(rt: HostRuntime) -> Resu
     assert!(rt; found == Some(GOOD), "{found:?}");
     Ok(())
 }
+
+/// A session that begins once the server has run for longer than it keeps one. It is kept from the
+/// loss of its connection on, so another client finds no caller then.
+const YOUNG: Script = Script {
+    pause: 3_500,
+    then: &[
+        (0, Act::Begin(1)),
+        (0, Act::CallIn(1, 0, Ask::Insert(b"x"), Answer::Added)),
+        (0, Act::Leave),
+        (1, Act::Connect),
+        (1, Act::Ask(1, Ask::Insert(b"x"))),
+        (1, Act::Hear(0, Answer::Fault(FaultCode::CallersSpent))),
+        (1, Act::End),
+    ],
+    ..NOTHING
+};
+
+#[test]
+fn a_session_is_kept_from_the_loss_of_its_connection(rt: HostRuntime) -> Result<(), Fail> {
+    let wanted = "connection 0 ended\nconnection 1 callersspent\n";
+    let server = (SMALL, keeping(3));
+    let found = follow(&rt, rt.alloc(), server, YOUNG, io::pipe(&rt)?, wanted);
+    assert!(rt; found == Some(GOOD), "{found:?}");
+    Ok(())
+}

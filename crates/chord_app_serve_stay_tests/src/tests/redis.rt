@@ -19,6 +19,9 @@ const ADD: Act = Act::Exchange(b"*3\r\n$4\r\nSADD\r\n$1\r\na\r\n$1\r\nx\r\n", b"
 /// It looks at the set.
 const LOOK: Act = Act::Exchange(b"SMEMBERS a\r\nPING\r\n", b"*1\r\n$1\r\nx\r\n+PONG\r\n");
 
+/// It asks for the number of its connection, which is 1.
+const ASK_FOR_1: Act = Act::Exchange(b"CLIENT ID\r\n", b":1\r\n");
+
 /// A client that speaks in frames retrieves a by its request 1, and is told the value x.
 const RETRIEVE: Act = Act::Exchange(
     b"\x00\x00\x00\x0c\x01\x02\x00\x00\x00\x00\x00\x00\x00\x01\x01a",
@@ -60,6 +63,7 @@ const SHUT_DOWN: Script = Script {
         (0, Act::Connect),
         (0, Act::Call(1, Ask::Insert(b"x"), Answer::Added)),
         (1, Act::ConnectRedis),
+        (1, ASK_FOR_1),
         (
             1,
             Act::Exchange(b"SHUTDOWN ABORT\r\n", b"-ERR No shutdown in progress.\r\n"),

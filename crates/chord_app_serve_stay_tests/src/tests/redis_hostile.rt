@@ -117,7 +117,7 @@ const BAD_LENGTH: Client = Client {
 /// Clients that pass a limit, and some that just keep it.
 const LIMITS: &[Client] = &[
     Client {
-        sent: &[Sent::Once(b"*1025\r\n")],
+        sent: &[Sent::Once(b"*1048577\r\n")],
         heard: b"-ERR Protocol error: invalid multibulk length\r\n",
         ..TOO_LONG
     },

@@ -2,7 +2,7 @@
 
 use crate::checks::check;
 use chord_app_plan::Plan;
-use chord_app_serve::{ServerStores, stay};
+use chord_app_serve::stay;
 use chord_app_serve_testkit::{
     Act, Answer, Ask, GOOD, Handle, NOTHING, SMALL, Script, Size, WAITS, bound, follow,
     follow_noted, leave, plan_with, two_stores,
@@ -30,7 +30,7 @@ pub fn stay_over<'a, R: Host, L: Log + Sync, W: Write + Send + Drop>(
     notes: &'a L,
     writer: W,
 ) -> Result<(), Finish> {
-    let stores = ServerStores::without_spares(alloc, two_stores(alloc, limit)?);
+    let stores = two_stores(alloc, limit)?;
     let setup = ServerSetup {
         alloc,
         plan,

@@ -89,3 +89,45 @@ fn frames_of_sessions_have_their_places(rt: HostRuntime) {
     let found = served(&rt, rt.alloc(), (3, 3), &Discard, clients, wanted);
     check!(&rt; found == Some(GOOD));
 }
+
+/// An Open that begins the session of token 1, and behind it the session's request 1, which inserts
+/// `x` under `abc`.
+const OPEN_AND_INSERT: &[u8] =
+    b"\x00\x00\x00\x23\x02\x04\x00\x00\x00\x00\x00\x00\x00\x00\x00\x00\x00\x00\x00\x00\x00\x00\x01\x02\x03\x04\x05\x06\x07\x08\x09\x0a\x0b\x0c\x0d\x0e\x0f\x01\x00\x00\x00\x00\x19\x02\x01\x00\x00\x00\x00\x00\x00\x00\x01\x00\x00\x00\x00\x00\x00\x00\x00\x03abc\x00\x01x";
+
+/// Opened, with floor 0 and last number 0, and that request 1 added the value.
+const OPENED_AND_ADDED: &[u8] =
+    b"\x00\x00\x00\x1a\x01\x84\x00\x00\x00\x00\x00\x00\x00\x00\x00\x00\x00\x00\x00\x00\x00\x00\x00\x00\x00\x00\x00\x00\x00\x00\x00\x00\x00\x0b\x01\x81\x00\x00\x00\x00\x00\x00\x00\x01\x01";
+
+/// An Open that resumes the session, and behind it request 1 again, and request 2 with floor 1,
+/// which retrieves the set of `abc`.
+const RESUME_AND_RETRIEVE: &[u8] =
+    b"\x00\x00\x00\x23\x02\x04\x00\x00\x00\x00\x00\x00\x00\x00\x00\x00\x00\x00\x00\x00\x00\x00\x01\x02\x03\x04\x05\x06\x07\x08\x09\x0a\x0b\x0c\x0d\x0e\x0f\x01\x01\x00\x00\x00\x19\x02\x01\x00\x00\x00\x00\x00\x00\x00\x01\x00\x00\x00\x00\x00\x00\x00\x00\x03abc\x00\x01x\x00\x00\x00\x16\x02\x02\x00\x00\x00\x00\x00\x00\x00\x02\x00\x00\x00\x00\x00\x00\x00\x01\x03abc";
+
+/// Opened, with floor 0 and last number 1, the answer to request 1 once more, and the value.
+const OPENED_AND_VALUE: &[u8] =
+    b"\x00\x00\x00\x1a\x01\x84\x00\x00\x00\x00\x00\x00\x00\x00\x00\x00\x00\x00\x00\x00\x00\x00\x00\x00\x00\x00\x00\x00\x00\x01\x00\x00\x00\x0b\x01\x81\x00\x00\x00\x00\x00\x00\x00\x01\x01\x00\x00\x00\x11\x01\x82\x00\x00\x00\x00\x00\x00\x00\x02\x00\x00\x00\x01\x00\x01x";
+
+/// A client sends its requests behind the Open in one write, as the session begins and as it is
+/// resumed, and closes its sending side before it reads.
+const BEHIND_AN_OPEN: Acts = &[
+    (0, Act::Connect),
+    (0, Act::Say(OPEN_AND_INSERT)),
+    (0, Act::Hush),
+    (0, Act::HearBytes(OPENED_AND_ADDED)),
+    (0, Act::End),
+    (1, Act::Connect),
+    (1, Act::Say(RESUME_AND_RETRIEVE)),
+    (1, Act::Hush),
+    (1, Act::HearBytes(OPENED_AND_VALUE)),
+    (1, Act::End),
+];
+
+/// What comes behind an Open is answered behind the frame that says that the session is open.
+#[test]
+fn requests_behind_an_open_are_answered(rt: HostRuntime) {
+    let wanted = "connection 0 ended\nconnection 1 ended\n";
+    let clients = Clients::Acting(BEHIND_AN_OPEN);
+    let found = served(&rt, rt.alloc(), (2, 2), &Discard, clients, wanted);
+    check!(&rt; found == Some(GOOD));
+}

@@ -113,7 +113,8 @@ fn closes<J: Naming, R: Abort + Wait + Clock>(
 {
     let (ring, callers) = ring_and_callers::<J, R>(rt, alloc, parts, back);
     let closed = ring.close_with(callers);
-    let is_whole = closed.is_whole;
+    let (nodes, is_whole) = (closed.nodes, closed.is_whole);
     drop(closed);
+    check!(rt; nodes == 2, "the crashed node is one of them");
     is_whole
 }

@@ -44,6 +44,7 @@ pub fn look<J: Naming, S: EntryStore, R: Wait + Clock>(
             Ok(yes_or_no(least <= passed && passed <= words.number()?))
         }
         "nodes" => Ok(name_of(&ring.node_count())),
+        "past-forwards" => Ok(name_of(&ring.past_forwards())),
         "settings" => Ok(name_of(&ring.settings())),
         "stopped" => Ok(yes_or_no(ring.is_stopped())),
         "rest" => Ok(yes_or_no(ring.rest(rt, words.number()?))),
@@ -93,7 +94,7 @@ fn look_at_node<J: Naming, S: EntryStore, R: Wait>(
         "holding" => Ok(name_of(&ring.holding(rt, number, place(words)?))),
         "phase" => Ok(name_of(&ring.phase_of(rt, number))),
         "live" => Ok(yes_or_no(ring.is_live(number))),
-        "admitted" => Ok(yes_or_no(ring.was_admitted(number))),
+        "admitted" => Ok(yes_or_no(ring.has_slot(number))),
         "lists" => Ok(lists(ring.links_of(rt, number))),
         "finger" => {
             let at = words.number()?;
@@ -227,19 +228,17 @@ fn all_links<J: Naming, S: EntryStore, R: Wait>(
 ) -> Result<Text, LineFault> {
     let rows = ring.links_at_once(rt, alloc)?;
     let mut text = Text::of("");
-    for (number, row) in rows.iter().enumerate() {
-        let number = number as u64;
-        if row.is_some() {
-            let mark = if *row == ring.links_of(rt, number) {
-                ""
-            } else {
-                "?"
-            };
-            text = text.and(format_args!("{number}{mark} "), 24);
-        }
+    for row in &rows {
+        let number = row.me().number;
+        let mark = if ring.links_of(rt, number) == Some(*row) {
+            ""
+        } else {
+            "?"
+        };
+        text = text.and(format_args!("{number}{mark} "), 24);
     }
-    let count = rows.len();
     drop(rows);
+    let count = ring.node_count();
     Ok(text.and(format_args!("of {count}"), 24))
 }
 

@@ -35,6 +35,62 @@ until emptied 0 > Err(Unsafe)
 tick 1 > Ok(Busy)
 retire 0 > Ok(())
 
+== 2 1 1 10 3 a slot is used again
+create A 1 > 0@A
+join C 0 1 > 1@C
+tick 0 > Ok(Busy)
+# a node that leaves has its slot until it is gone
+leave 1 > Ok(())
+join B 0 1 > NoSlot, back with 0, Ok(Added), Err(Full)
+retire 1 > Ok(())
+admitted 1 > Yes
+# then its slot is the next node's, which has a number of its own; nobody knows number 1 any more
+join B 0 1 > 2@B
+nodes > 3
+admitted 1 > No
+phase 1 > None
+tick 1 > Err(NoSuchNode)
+leave 1 > Err(NoSuchNode)
+retire 1 > Err(NoSuchNode)
+admitted 2 > Yes
+live 2 > Yes
+# departures are judged with the seat that node 1 had, and its identifier is not used again
+leave 2 > Ok(())
+retire 2 > Ok(())
+join C 0 1 > IdTaken, back with 0, Ok(Added), Err(Full)
+join e0000000000000000000000000000000 0 1 > 3@e0000000000000000000000000000000
+
+== 2 1 1 1000 3 what a node passed on counts after its slot is used again
+create A 1 > 0@A
+join C 0 1 > 1@C
+tick 0 > Ok(Busy)
+client 1 > Opened
+# node 1 holds nothing yet, so it passes a request on to node 0
+k0 call 1 insert abc x > added
+leave 1 > Ok(())
+retire 1 > Ok(())
+past-forwards > 0
+join B 0 1 > 2@B
+past-forwards > 1
+
+== 2 1 1 1000 3 an item that waits keeps the slot
+create A 1 > 0@A
+join C 0 1 > 1@C
+tick 1 > Ok(Busy)
+# node 0 cuts its segment, and then hands a part of it over
+tick 0 > Ok(Busy)
+tick 0 > Ok(Busy)
+leave 1 > Ok(())
+retire 1 > Ok(())
+# node 1 is gone, and the handover still waits for its answer
+join B 0 1 > NoSlot, back with 0, Ok(Added), Err(Full)
+# node 1 declines it, and node 0 has it back
+tick 1 > Ok(Quiet)
+workers 0
+until given 0 > Done
+join B 0 1 > 2@B
+admitted 1 > No
+
 == 2 0 1 10 3 all fingers are found in turn
 create A 3 > 0@A
 join C 0 1 > 1@C
@@ -107,6 +163,32 @@ c0 begin 1 retrieve abc > 1
 sight 1 > 1@C Gone Some(0) [0, 1] fingers 3 pairs 0 asks 0 0 0 0 handovers 0 0 0 ticks 3
 tick 1 > Ok(Quiet)
 sight 1 > 1@C Gone Some(0) [0, 1] fingers 3 pairs 0 asks 0 1 0 0 handovers 0 0 0 ticks 3
+
+== 2 1 1 10 3 a node that leaves is given nothing
+create A 1 > 0@A
+join C 0 1 > 1@C
+leave 1 > Ok(())
+rounds 8 2 > Done
+# the identifier of `abc` would be node 1's, if that stayed
+holding 0 .abc > Some(Node(0))
+holding 1 .abc > None
+
+== 3 1 20 1000 2 what a node leaves goes to one that stays
+create A 4 > 0@A
+join a99a0000000000000000000000000000 0 4 > 1@a99a0000000000000000000000000000
+rounds 8 2 > Done
+join C 0 4 > 2@C
+rounds 8 3 > Done
+lists 1 > list 2 0
+workers 0 1
+until held 1 > Done
+caller 1 > Opened
+c0 call 0 insert abc x > added
+leave 2 > Ok(())
+leave 1 > Ok(())
+# node 2, which is behind node 1, leaves too, so node 0 takes over
+until has 1 0 0 > Done
+holding 0 .abc > Some(Node(0))
 ";
 
 const CRASHING: &str = "

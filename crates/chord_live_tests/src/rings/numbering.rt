@@ -4,9 +4,11 @@ ghost use Rattle.chord_caller.specs.Answers.{new_caller};
 
 use crate::checks::check;
 use chord_caller::CallerCore;
-use chord_live_steps::{Numbers, SeatedCore};
+use chord_ident::Id;
+use chord_live_steps::{Departure, Numbers, SeatedCore};
 use chord_map::Request;
 use chord_node::Message;
+use chord_store::ListStore;
 use chord_table::{Naming, Registrar, Shared, TableParts};
 use chord_testkit::Text;
 use std::alloc::Global;
@@ -25,13 +27,46 @@ fn a_seated_core_submits_and_meets(rt: HostRuntime) {
     check!(&rt; met.as_str() == "(0, 0), (0, 0), false", "another one meets its note");
 }
 
+#[test]
+fn nodes_get_numbers(rt: HostRuntime) {
+    let parts = Registrar::open(rt.alloc(), 2, 1).expect(&rt, "memory for a table");
+    let told = admitted::<Brand>(rt.alloc(), parts).expect(&rt, "memory for a node");
+    // Node 0 is in slot 1, and its seat is its own. So it does not depart; then its seat is there.
+    let wanted = "0 of 1, stays, 1 of 1";
+    check!(&rt; told.as_str() == wanted, "a node departs once all seats are there");
+}
+
+/// How many nodes' seats there are of how many, once a node is admitted, whether it then departs,
+/// and how many there are once its seat is taken in.
+fn admitted<J: Naming>(alloc: Global, parts: TableParts) -> Option<Text>
+    requires name { parts ≡ J.name }
+    requires slots { parts.slots ≡ 2 }
+    requires callers { parts.callers ≡ 1 }
+{
+    let (table, registrar) = parts.assemble::<J>();
+    let mut numbers = Numbers::new(alloc, registrar, 1);
+    let store = ListStore::new(alloc);
+    let Ok((node, seat)) = numbers.create(&table, 1, alloc, Id::new(7), 2, store) else {
+        return None;
+    };
+    drop(node);
+    let (held, nodes) = (numbers.held(), numbers.nodes());
+    let departs = numbers.depart(&table, &[], Departure::Retire(0));
+    numbers.take_node(&table, seat);
+    let does = if departs { "departs" } else { "stays" };
+    let (more, all) = (numbers.held(), numbers.nodes());
+    let told = Text::of(format_args!("{held} of {nodes}, {does}, {more} of {all}"));
+    drop(numbers);
+    drop(table);
+    Some(told)
+}
+
 fn seated<J: Naming>(alloc: Global, parts: TableParts) -> Option<(Text, Text)>
     requires name { parts ≡ J.name }
-    requires slots { parts.slots ≡ 1 }
     requires callers { parts.callers ≡ 2 }
 {
     let (table, registrar) = parts.assemble::<J>();
-    let mut numbers = Numbers::new(alloc, registrar, 1, 2);
+    let mut numbers = Numbers::new(alloc, registrar, 2);
     let (core, seat) = numbers.admit_caller(&table, alloc, 1)?;
     let mut zero = SeatedCore::new(core, seat);
     let (core, seat) = numbers.admit_caller(&table, alloc, 1)?;

@@ -23,6 +23,16 @@ join 3fffffffffffffffffffffffffffffff 0 0 > 1@3fffffffffffffffffffffffffffffff
 workers 0 1
 # a piece has 257 to 512 pairs, and the last may have fewer
 go-over 1036 > (A 3fffffffffffffffffffffffffffffff], 0 pairs left, 3 to 5 given and taken
+
+== 2 1 20 1000 3 one handover to a node is under way at a time
+create A 0 > 0@A
+caller 1 > Opened
+c0 fill 0 1036 > added
+join 3fffffffffffffffffffffffffffffff 0 0 > 1@3fffffffffffffffffffffffffffffff
+rounds 16 2 > Done
+# nobody takes in the first piece, so the rest, of more than 512 pairs, stays where it is
+holding 0 40000000000000000000000000000001 > Some(UnderWay { from: 0, to: 1, number: 1 })
+holding 0 3fffffffffffffffffffffffffffffff > Some(Node(0))
 ";
 
 #[test]

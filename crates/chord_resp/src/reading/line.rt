@@ -1,8 +1,11 @@
 //! The words of an inline command.
-ghost use Rattle.std.specs.Prelude.{◌≡◌, ◌++◌, ◌∷◌, [], IfOk, OnOk, OnErr, map};
-ghost use Rattle.chord_resp.specs.Machine.{without_return, whole_word, words_in, word_of};
+ghost use Rattle.std.specs.Prelude.{◌≡◌, IfOk, map};
+ghost use Rattle.chord_resp.specs.Machine.{without_return, word_of};
+ghost use Rattle.chord_resp.specs.Quotes.{Splits, words_in};
 
 use crate::limits::WORD_BYTES;
+use crate::reading::read_error::ReadError;
+use crate::reading::splitter::Splitter;
 use crate::reading::word::Word;
 use chord_map::Bytes;
 use std::alloc::{AllocError, Global};
@@ -22,37 +25,18 @@ pub fn without_return(bytes: &[u8]) -> &[u8]
     }
 }
 
-/// Adds the bytes as one more word, if there are any.
-fn add_word(alloc: Global, words: &mut Vec<Bytes>, bytes: &[u8]) -> Result<(), AllocError>
-    ensures { OnOk result (words.new.items ≡ words.old.items ++ whole_word bytes.now) }
-{
-    match bytes {
-        [] => Ok(()),
-        _ => {
-            words.push(Bytes::from_slice(alloc, bytes)?)?;
-            Ok(())
-        }
-    }
-}
-
 /// The words of a line.
-pub fn words_in(alloc: Global, line: &[u8]) -> Result<Vec<Bytes>, AllocError>
-    ensures { IfOk result (λ words. words.items ≡ words_in line.now) }
+#[tactic(auto, unfolding(crate::specs::Quotes::split_from))]
+pub fn words_in(alloc: Global, line: &[u8]) -> Result<Vec<Bytes>, ReadError>
+    ensures { Splits (λ words. words.items) result (words_in line.now) }
 {
-    let mut words = Vec::new(alloc);
-    let mut word = Vec::new(alloc);
+    let mut splitter = Splitter::new(alloc);
     let mut rest = line;
     while let [byte, more @ ..] = rest {
-        if *byte == b' ' {
-            add_word(alloc, &mut words, &word)?;
-            word.clear();
-        } else {
-            word.push(*byte)?;
-        }
+        splitter.take(*byte)?;
         rest = more;
     }
-    add_word(alloc, &mut words, &word)?;
-    Ok(words)
+    splitter.end()
 }
 
 /// The bytes as a word.

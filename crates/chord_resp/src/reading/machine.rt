@@ -1,14 +1,16 @@
 //! Reading a client's bytes, one at a time.
-ghost use Rattle.std.specs.Prelude.{◌≡◌, ◌-◌, ◌<◌, ◌≤◌, true, false, nat_lt, IfOk, OnOk, OnErr};
-ghost use Rattle.chord_resp.specs.Machine.{start, step, kept, went, line_step, line_of, words_in, without_return, count_end_step, body_step, end_step, word_kept, word_of_length};
+ghost use Rattle.std.specs.Prelude.{◌≡◌, ◌-◌, ◌<◌, ◌≤◌, [], true, false, IfOk, OnOk, OnErr};
+ghost use Rattle.chord_resp.specs.Machine.{start, step, kept, went, line_step, line_of, without_return, room_for, count_end_step, size_end_step, is_known_behind, is_left_out, body_step, end_step, word_kept, word_behind, words_with};
+ghost use Rattle.chord_resp.specs.Quotes.{words_in};
 ghost use Rattle.chord_resp.specs.declared.reading.phase.Phase.TheVariants as phase;
 ghost use Rattle.chord_resp.specs.ShortLines.{EndsLine};
-ghost use Rattle.chord_resp.specs.Reading.{StepIs, Skims, KeepsNext, keeps, is_at_start, kept_behind};
+ghost use Rattle.chord_resp.specs.Reading.{StepIs, Skims, KeepsNext, keeps, keeps_bytes, is_at_start, kept_behind};
 
-use crate::limits::{LINE_BYTES, WORD_BYTES, WORDS};
+use crate::limits::{COMMAND_BYTES, LINE_BYTES, LONG_COMMAND_BYTES, WORD_BYTES, WORDS};
 use crate::reading::foreign::is_foreign;
+use crate::reading::left::Left;
 use crate::reading::line::{as_words, without_return, words_in};
-use crate::reading::numbers::{count_step, mark_step, size_end_step, size_step};
+use crate::reading::numbers::{count_step, mark_step, size_step};
 use crate::reading::phase::Phase;
 use crate::reading::protocol_error::ProtocolError;
 use crate::reading::read_error::ReadError;
@@ -20,14 +22,13 @@ use std::alloc::{AllocError, Global};
 use std::marker::Model;
 use std::mem;
 
-/// What has come of a command. It holds at most 1,024 words, and 4,096 bytes of the one that is not
-/// whole or 65,536 of a line.
+/// What has come of a command. It holds at most 1,024 words and the length of one more, and 4,096
+/// bytes of the one that is not whole or 65,536 of a line.
 #[derive(Debug, Drop)]
 pub struct Machine {
     alloc: Global,
     phase: Phase,
-    // How many words are still to come.
-    wanted: u32,
+    left: Left,
     words: Vec<Word>,
     // The bytes of the word that is not whole, or of the line.
     partial: Vec<u8>,
@@ -38,7 +39,21 @@ impl Model for Machine {
 
     ghost Value = { State };
 
-    ghost view = { λ m. record { phase = m.phase; wanted = m.wanted; words = m.words.items; partial = m.partial.items } };
+    ghost view = { λ m. record { phase = m.phase; left = m.left; words = m.words.items; partial = m.partial.items } };
+}
+
+/// Nothing is left of a command.
+const NOTHING: Left = Left { words: 0, bytes: 0 };
+
+/// How many bytes the words of a command may have, if it has so many.
+fn room_for(count: u32) -> u32
+    ensures { result ≡ room_for count }
+{
+    if count <= WORDS {
+        COMMAND_BYTES
+    } else {
+        LONG_COMMAND_BYTES
+    }
 }
 
 impl Machine {
@@ -48,7 +63,7 @@ impl Machine {
         Machine {
             alloc,
             phase: Phase::Start,
-            wanted: 0,
+            left: NOTHING,
             words: Vec::new(alloc),
             partial: Vec::new(alloc),
         }
@@ -70,12 +85,20 @@ impl Machine {
             .fold(begun, |sum, word| sum.saturating_add(word.kept_bytes()))
     }
 
+    // Whether the bytes of a word of this length are not kept.
+    fn leaves_out(&self, length: u32) -> bool
+        ensures { result ≡ is_left_out self.now.words length }
+    {
+        length > WORD_BYTES || self.words.len() >= WORDS as usize
+    }
+
     // Keeps bytes of a word of this length.
     fn keep(&mut self, length: u32, bytes: &[u8]) -> Result<(), AllocError>
-        ensures ok { OnOk result (self.new ≡ record { phase = self.old.phase; wanted = self.old.wanted; words = self.old.words; partial = kept length self.old.partial bytes.now }) }
+        ensures ok { OnOk result (self.new ≡ record { phase = self.old.phase; left = self.old.left; words = self.old.words; partial = kept self.old.words length self.old.partial bytes.now }) }
         ensures err { OnErr result (self.new ≡ self.old) }
+        ensures memory { OnErr result (is_left_out self.old.words length ≡ false) }
     {
-        if length > WORD_BYTES {
+        if self.leaves_out(length) {
             return Ok(());
         }
         self.partial.extend_from_slice(bytes)
@@ -106,9 +129,7 @@ impl Machine {
         if bytes[0] != b'*' || line.number == 0 {
             return 0;
         }
-        self.restart();
-        self.wanted = line.number;
-        self.phase = Phase::Mark;
+        self.expect(line.number);
         line.length
     }
 
@@ -123,6 +144,10 @@ impl Machine {
         if bytes[0] != b'$' {
             return 0;
         }
+        if self.left.bytes < line.number {
+            return 0;
+        }
+        self.left.bytes -= line.number;
         self.phase = Phase::Body {
             length: line.number,
             left: line.number,
@@ -172,7 +197,7 @@ impl Machine {
         if !ends_line(bytes, 0) {
             return 0;
         }
-        if self.wanted <= 1 {
+        if self.left.words <= 1 {
             return self.skim_return(length, bytes);
         }
         match self.end_word(length) {
@@ -192,15 +217,28 @@ impl Machine {
         1
     }
 
-    /// Keeps a word that has ended, behind which more words come.
-    fn end_word(&mut self, length: u32) -> Result<(), AllocError>
-        requires { 1 < self.old.wanted }
-        ensures ok { OnOk result (self.new ≡ word_kept self.old length) }
+    /// Keeps a word that has ended, if it is among the first 1,024, or the length of the next one.
+    fn add_word(&mut self, length: u32) -> Result<(), AllocError>
+        ensures ok { OnOk result (self.new ≡ record { phase = self.old.phase; left = self.old.left; words = words_with self.old.words length self.old.partial; partial = self.old.partial }) }
         ensures err { OnErr result (self.new ≡ self.old) }
+        ensures memory { OnErr result (is_known_behind self.old.words ≡ true) }
     {
-        let word = self.word(length)?;
-        self.words.push(word)?;
-        self.wanted -= 1;
+        if self.words.len() <= WORDS as usize {
+            let word = self.word(length)?;
+            self.words.push(word)?;
+        }
+        Ok(())
+    }
+
+    /// Ends a word behind which more words come.
+    fn end_word(&mut self, length: u32) -> Result<(), AllocError>
+        requires { 1 < self.old.left.words }
+        ensures ok { OnOk result (self.new ≡ word_kept self.old.left (words_with self.old.words length self.old.partial)) }
+        ensures err { OnErr result (self.new ≡ self.old) }
+        ensures memory { OnErr result (is_known_behind self.old.words ≡ true) }
+    {
+        self.add_word(length)?;
+        self.left.words -= 1;
         self.partial.clear();
         self.phase = Phase::Mark;
         Ok(())
@@ -209,7 +247,7 @@ impl Machine {
     /// Takes one byte, which may end a command.
     #[tactic(auto, unfolding(crate::specs::Machine::step))]
     pub fn step(&mut self, byte: u8) -> Result<Option<Words>, ReadError>
-        ensures { StepIs (step self.old byte) (keeps self.old.phase byte) self.old result self.new }
+        ensures { StepIs (step self.old byte) (keeps self.old byte) self.old result self.new }
     {
         match self.phase {
             Phase::Start => {
@@ -227,7 +265,7 @@ impl Machine {
             Phase::CountEnd { number } => self.count_end_step(number, byte),
             Phase::Mark => self.go(mark_step(byte)),
             Phase::Size { digits, number } => self.go(size_step(digits, number, byte)),
-            Phase::SizeEnd { number } => self.go(size_end_step(number, byte)),
+            Phase::SizeEnd { number } => self.size_end_step(number, byte),
             Phase::Body { length, left } => self.body_step(length, left, byte),
             Phase::End { length } => self.end_step(length, byte),
         }
@@ -251,9 +289,21 @@ impl Machine {
         ensures { self.new ≡ start }
     {
         self.phase = Phase::Start;
-        self.wanted = 0;
+        self.left = NOTHING;
         self.words.clear();
         self.partial.clear();
+    }
+
+    // Begins a command of this many words.
+    fn expect(&mut self, count: u32)
+        ensures { self.new ≡ record { phase = phase.Mark; left = record { words = count; bytes = room_for count }; words = []; partial = [] } }
+    {
+        self.restart();
+        self.phase = Phase::Mark;
+        self.left = Left {
+            words: count,
+            bytes: room_for(count),
+        };
     }
 
     // Hands out the words, and goes back to the start.
@@ -308,16 +358,33 @@ impl Machine {
         if byte != b'\n' {
             return Err(ReadError::Protocol(ProtocolError::BadCount));
         }
-        self.restart();
-        if number != 0 {
-            self.wanted = number;
-            self.phase = Phase::Mark;
+        if number == 0 {
+            self.restart();
+        } else {
+            self.expect(number);
         }
         Ok(None)
     }
 
+    fn size_end_step(&mut self, number: u32, byte: u8) -> Result<Option<Words>, ReadError>
+        ensures { StepIs (size_end_step self.old number byte) false self.old result self.new }
+    {
+        if byte != b'\n' {
+            return Err(ReadError::Protocol(ProtocolError::BadLength));
+        }
+        if self.left.bytes < number {
+            return Err(ReadError::Protocol(ProtocolError::BadCount));
+        }
+        self.left.bytes -= number;
+        self.phase = Phase::Body {
+            length: number,
+            left: number,
+        };
+        Ok(None)
+    }
+
     fn body_step(&mut self, length: u32, left: u32, byte: u8) -> Result<Option<Words>, ReadError>
-        ensures { StepIs (body_step self.old length left byte) (nat_lt 0 left) self.old result self.new }
+        ensures { StepIs (body_step self.old length left byte) (keeps_bytes self.old.words length left) self.old result self.new }
     {
         if left == 0 {
             if byte != b'\r' {
@@ -326,7 +393,7 @@ impl Machine {
             self.phase = Phase::End { length };
             return Ok(None);
         }
-        if length <= WORD_BYTES {
+        if !self.leaves_out(length) {
             self.partial.push(byte)?;
         }
         self.phase = Phase::Body {
@@ -338,26 +405,25 @@ impl Machine {
 
     // The word that has ended.
     fn word(&self, length: u32) -> Result<Word, AllocError>
-        ensures { IfOk result (λ word. word ≡ word_of_length length self.now.partial) }
+        ensures { IfOk result (λ word. word ≡ word_behind self.now.words length self.now.partial) }
     {
-        if WORD_BYTES < length {
+        if self.leaves_out(length) {
             return Ok(Word::Long(length as usize));
         }
         Ok(Word::Whole(Bytes::from_slice(self.alloc, &self.partial)?))
     }
 
     fn end_step(&mut self, length: u32, byte: u8) -> Result<Option<Words>, ReadError>
-        ensures { StepIs (end_step self.old length byte) true self.old result self.new }
+        ensures { StepIs (end_step self.old length byte) (is_known_behind self.old.words) self.old result self.new }
     {
         if byte != b'\n' {
             return Err(ReadError::Protocol(ProtocolError::BadLength));
         }
-        if self.wanted > 1 {
+        if self.left.words > 1 {
             self.end_word(length)?;
             return Ok(None);
         }
-        let word = self.word(length)?;
-        self.words.push(word)?;
+        self.add_word(length)?;
         Ok(Some(self.give()))
     }
 }

@@ -1,8 +1,8 @@
 //! The phases that read a number and what stands around it.
 ghost use Rattle.std.specs.Prelude.{◌≡◌};
-ghost use Rattle.chord_resp.specs.Machine.{longer, count_step, mark_step, size_step, size_end_step};
+ghost use Rattle.chord_resp.specs.Machine.{longer, count_step, mark_step, size_step};
 
-use crate::limits::{DIGITS, LONG_WORD_BYTES, WORDS};
+use crate::limits::{DIGITS, LONG_WORD_BYTES, LONG_WORDS};
 use crate::reading::phase::Phase;
 use crate::reading::protocol_error::ProtocolError;
 
@@ -33,7 +33,7 @@ pub fn count_step(digits: u32, number: u32, byte: u8) -> Result<Phase, ProtocolE
     if DIGITS <= digits {
         return Err(ProtocolError::TooLong);
     }
-    match longer(WORDS, number, byte) {
+    match longer(LONG_WORDS, number, byte) {
         None => Err(ProtocolError::BadCount),
         Some(number) => Ok(Phase::Count {
             digits: digits + 1,
@@ -73,18 +73,5 @@ pub fn size_step(digits: u32, number: u32, byte: u8) -> Result<Phase, ProtocolEr
             digits: digits + 1,
             number,
         }),
-    }
-}
-
-pub fn size_end_step(number: u32, byte: u8) -> Result<Phase, ProtocolError>
-    ensures { result ≡ size_end_step number byte }
-{
-    if byte == b'\n' {
-        Ok(Phase::Body {
-            length: number,
-            left: number,
-        })
-    } else {
-        Err(ProtocolError::BadLength)
     }
 }

@@ -9,7 +9,7 @@ use chord_map::Bytes;
 pub enum Word {
     /// A word of at most 4,096 bytes.
     Whole(Bytes),
-    /// The length of a longer word, whose bytes are not kept.
+    /// The length of a longer word, or of the one behind the first 1,024, whose bytes are not kept.
     Long(usize),
 }
 

@@ -47,6 +47,10 @@ pub enum Command {
     Exec,
     /// DISCARD: the transaction ends, and nothing of it is done.
     Discard,
+    /// AUTH of the user `default`, whom each password lets in.
+    Auth,
+    /// TIME: the moment, by the server's clock.
+    Time,
     /// SHUTDOWN: the server stops. The connection ends without an answer.
     Shutdown,
 }

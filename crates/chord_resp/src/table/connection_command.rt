@@ -1,9 +1,10 @@
 //! The commands that ask the ring nothing.
 ghost use Rattle.std.specs.Prelude.{◌≡◌};
-ghost use Rattle.chord_resp.specs.Table.{counted, ping_of, select_of, hello_of, client_of, command_command, config_of, shutdown_of, connection_command};
+ghost use Rattle.chord_resp.specs.Table.{counted, ping_of, select_of, client_of, command_command, config_of, shutdown_of, connection_command};
 
 use crate::reading::word::Word;
 use crate::table::command::Command;
+use crate::table::hello::{auth_of, hello_of, named};
 use crate::table::operand::Operand;
 use crate::table::operands::Operands;
 use crate::table::refusal::Refusal;
@@ -47,21 +48,6 @@ fn select_of(mut operands: Operands) -> Result<Command, Refusal>
     }
 }
 
-fn hello_of(mut operands: Operands) -> Result<Command, Refusal>
-    ensures { result ≡ hello_of operands }
-{
-    match operands.next() {
-        None => Ok(Command::Hello),
-        Some(word) => {
-            if is_text(&word, b"2") {
-                Ok(Command::Hello)
-            } else {
-                Err(Refusal::NoProtocol)
-            }
-        }
-    }
-}
-
 #[tactic(auto, unfolding(crate::specs::Table::client_of))]
 fn client_of(mut operands: Operands) -> Result<Command, Refusal>
     ensures { result ≡ client_of operands }
@@ -70,7 +56,9 @@ fn client_of(mut operands: Operands) -> Result<Command, Refusal>
         return Err(Refusal::WrongNumber(Verb::Client));
     };
     let left = operands.left();
-    if is_text(&word, b"setname") || is_text(&word, b"no-evict") || is_text(&word, b"no-touch") {
+    if is_text(&word, b"setname") {
+        named(operands)
+    } else if is_text(&word, b"no-evict") || is_text(&word, b"no-touch") {
         counted(left == 1, Verb::Client, Command::Accept)
     } else if is_text(&word, b"setinfo") {
         counted(left == 2, Verb::Client, Command::Accept)
@@ -161,6 +149,11 @@ pub fn connection_command(verb: Verb, operands: Operands) -> Result<Command, Ref
         Verb::Watch => Err(Refusal::NoTransactions),
         Verb::Unwatch => Ok(Command::Accept),
         Verb::Shutdown => shutdown_of(operands),
+        Verb::Auth => auth_of(operands),
+        Verb::Time => Ok(Command::Time),
+        Verb::Flushall | Verb::Expire | Verb::Move | Verb::Spop | Verb::Smove | Verb::Memory => Err(
+            Refusal::NotServed(verb),
+        ),
         _ => Ok(Command::Quit),
     }
 }

@@ -2,6 +2,7 @@
 ghost use Rattle.std.specs.Prelude.{◌≡◌, ◌≤◌, length, IsErrOf};
 ghost use Rattle.chord_resp.specs.Table.{Gives, command_of, is_of_sets};
 
+use crate::limits::WORDS;
 use crate::reading::word::Word;
 use crate::reading::words::Words;
 use crate::table::command::Command;
@@ -44,6 +45,9 @@ pub fn command_of(alloc: Global, words: Words) -> Result<Command, Denied>
         let name = Word::Whole(Bytes::from_vec(Vec::new(alloc)));
         return Err(Denied::Refused(Refusal::UnknownCommand { name }));
     };
+    if WORDS as usize <= operands.left() {
+        return Err(Denied::Refused(Refusal::TooManyWords));
+    }
     let Some(verb) = Verb::of_word(&name) else {
         return Err(Denied::Refused(Refusal::UnknownCommand { name }));
     };

@@ -14,6 +14,8 @@ pub struct Progress {
 pub enum Refusal {
     /// The bytes are no command.
     Protocol(ProtocolError),
+    /// More than 1,024 words.
+    TooManyWords,
     UnknownCommand { name: Word },
     /// The second word of CLIENT, COMMAND or CONFIG is none of theirs.
     UnknownSubcommand { verb: Verb, name: Word },
@@ -39,6 +41,16 @@ pub enum Refusal {
     NothingToDiscard,
     /// SHUTDOWN ABORT: no server that stops goes on.
     NothingToAbort,
+    /// HELLO has no such option, or one that lacks its words.
+    HelloOption { name: Word },
+    /// AUTH with a password alone: the user `default` has none.
+    NoPassword,
+    /// Another user than `default`.
+    WrongPassword,
+    /// The name of a connection with a space or a byte that cannot be printed.
+    BadName,
+    /// A command of Redis on sets or the server that is not served here.
+    NotServed(Verb),
     /// A word that the command does not know.
     Syntax,
     /// The set has 1,000 members.

@@ -32,10 +32,18 @@ pub enum Verb {
     Watch,
     Unwatch,
     Shutdown,
+    Auth,
+    Time,
+    Flushall,
+    Expire,
+    Move,
+    Spop,
+    Smove,
+    Memory,
 }
 
 /// All names, those of sets first.
-pub const ALL: [Verb; 24] = [
+pub const ALL: [Verb; 32] = [
     Verb::Sadd,
     Verb::Srem,
     Verb::Smembers,
@@ -60,6 +68,14 @@ pub const ALL: [Verb; 24] = [
     Verb::Watch,
     Verb::Unwatch,
     Verb::Shutdown,
+    Verb::Auth,
+    Verb::Time,
+    Verb::Flushall,
+    Verb::Expire,
+    Verb::Move,
+    Verb::Spop,
+    Verb::Smove,
+    Verb::Memory,
 ];
 
 /// Whether the bytes are the text, in upper or lower case.
@@ -111,6 +127,14 @@ impl Verb {
             Verb::Watch => b"watch",
             Verb::Unwatch => b"unwatch",
             Verb::Shutdown => b"shutdown",
+            Verb::Auth => b"auth",
+            Verb::Time => b"time",
+            Verb::Flushall => b"flushall",
+            Verb::Expire => b"expire",
+            Verb::Move => b"move",
+            Verb::Spop => b"spop",
+            Verb::Smove => b"smove",
+            Verb::Memory => b"memory",
         }
     }
 
@@ -145,13 +169,20 @@ impl Verb {
     {
         match self {
             Verb::Sadd | Verb::Srem | Verb::Smismember => 2 <= operands,
-            Verb::Exists | Verb::Client | Verb::Config | Verb::Watch => 1 <= operands,
+            Verb::Exists | Verb::Client | Verb::Config | Verb::Watch | Verb::Auth => 1 <= operands,
             Verb::Smembers | Verb::Scard | Verb::Type | Verb::Echo | Verb::Select => operands == 1,
             Verb::Sismember => operands == 2,
-            Verb::Ping | Verb::Hello | Verb::Info => operands <= 1,
-            Verb::Command | Verb::Shutdown => true,
-            Verb::Quit | Verb::Reset | Verb::Multi | Verb::Exec | Verb::Discard | Verb::Unwatch =>
-                operands == 0,
+            Verb::Ping | Verb::Info => operands <= 1,
+            Verb::Command | Verb::Hello | Verb::Shutdown => true,
+            Verb::Flushall | Verb::Expire | Verb::Move | Verb::Spop | Verb::Smove | Verb::Memory =>
+                true,
+            Verb::Quit
+            | Verb::Reset
+            | Verb::Multi
+            | Verb::Exec
+            | Verb::Discard
+            | Verb::Unwatch
+            | Verb::Time => operands == 0,
         }
     }
 }

@@ -70,6 +70,7 @@ fn protocol_text(alloc: Global, fault: ProtocolError) -> Result<Vec<u8>, AllocEr
         }
         ProtocolError::BadLength => Vec::from_slice(alloc, b"invalid bulk length"),
         ProtocolError::TooLong => Vec::from_slice(alloc, b"too big inline request"),
+        ProtocolError::Unbalanced => Vec::from_slice(alloc, b"unbalanced quotes in request"),
         ProtocolError::Foreign => Vec::from_slice(alloc, b"line of another protocol"),
     }
 }
@@ -102,6 +103,7 @@ fn fixed_text(refusal: &Refusal) -> &'static [u8]
         Refusal::NoDatabase => b"ERR DB index is out of range",
         Refusal::NoProtocol => b"NOPROTO unsupported protocol version",
         Refusal::Protocol(_) => b"ERR Protocol error: ",
+        Refusal::TooManyWords => b"ERR too many arguments, at most 1,022 members",
         Refusal::UnknownCommand { .. } => b"ERR unknown command '",
         Refusal::UnknownSubcommand { .. } => b"ERR unknown subcommand '",
         Refusal::WrongNumber(_) => b"ERR wrong number of arguments for '",
@@ -111,6 +113,13 @@ fn fixed_text(refusal: &Refusal) -> &'static [u8]
         Refusal::NothingToDiscard => b"ERR DISCARD without MULTI",
         Refusal::NothingToAbort => b"ERR No shutdown in progress.",
         Refusal::Syntax => b"ERR syntax error",
+        Refusal::HelloOption { .. } => b"ERR Syntax error in HELLO option '",
+        Refusal::NoPassword =>
+            b"ERR AUTH <password> called without any password configured for the default user. Are you sure your configuration is correct?",
+        Refusal::WrongPassword => b"WRONGPASS invalid username-password pair or user is disabled.",
+        Refusal::NotServed(_) => b"ERR '",
+        Refusal::BadName =>
+            b"ERR Client names cannot contain spaces, newlines or special characters.",
         Refusal::SetFull(_) => b"ERR set is full: it has 1000 members",
         Refusal::StoreFull(_) => b"OOM the node's store is full",
         Refusal::NoAnswer(_) => b"TRYAGAIN no answer in time, it may have acted",
@@ -134,7 +143,7 @@ fn detail(alloc: Global, refusal: &Refusal) -> Result<Vec<u8>, AllocError>
 {
     match refusal {
         Refusal::Protocol(fault) => protocol_text(alloc, *fault),
-        Refusal::UnknownCommand { name } => {
+        Refusal::UnknownCommand { name } | Refusal::HelloOption { name } => {
             let mut text = shown(alloc, name)?;
             text.push(b'\'')?;
             Ok(text)
@@ -144,6 +153,7 @@ fn detail(alloc: Global, refusal: &Refusal) -> Result<Vec<u8>, AllocError>
             text.extend_from_slice(help_of(*verb))?;
             Ok(text)
         }
+        Refusal::NotServed(verb) => joined(alloc, verb.text(), b"' is not served", b""),
         Refusal::WrongNumber(verb) => joined(alloc, verb.text(), b"' command", b""),
         Refusal::SetFull(progress) => progress_text(alloc, *progress),
         Refusal::StoreFull(progress) => progress_text(alloc, *progress),

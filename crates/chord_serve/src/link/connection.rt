@@ -1,6 +1,7 @@
 //! One connection, which owns its stream.
 ghost use Rattle.std.specs.Prelude.{◌≡◌, ◌≢◌, ◌⊎◌, ◌↔◌, ◌∷◌, [], ℕ, ◌<◌, ◌≤◌, List, Result, length, take, drop, true, false, Ok, Some, None, IfOk, IfErr, IsTrue, OnErr};
 ghost use Rattle.std.specs.Io.KnownBytes.{Appends, Consumes, IsAtEnd};
+ghost use Rattle.chord_serve.specs.Marking.{NotesMark};
 ghost use Rattle.chord_serve.specs.Runs.{Run};
 ghost use Rattle.chord_serve.specs.Stages.{stage_after, tries_after};
 ghost use Rattle.chord_serve.specs.Standing.{Told};
@@ -25,7 +26,7 @@ use std::os::fd::{AsRawFd, RawFd};
 /// How many requests `advance` answers at most, so that others get their turn.
 const MOST_ANSWERS: u32 = 64;
 
-/// A connection. Its driver reads while it `wants_read`, calls `advance` behind each read, writes
+/// A connection. Its driver reads while it `wants_read`, calls `advance` after each read, writes
 /// while it `wants_write` and `may_write`, and calls `try_again` or `stop_waiting` while it `waits`,
 /// until it `is_done`.
 ///
@@ -220,10 +221,21 @@ impl<P: Protocol, S: Stream> Link<P, S> {
         }
     }
 
+    /// What is due may show changes up to where there are some now.
+    fn note<M: Marks>(&mut self, marks: &M)
+        ensures machine { self.new.machine ≡ self.old.machine }
+        ensures mark { NotesMark (M.tells marks.now) self.old.mark self.new.mark }
+    {
+        self.mark = self.mark.max(marks.mark());
+    }
+
     /// Answers what is whole. The answers may show changes up to where there are some then.
     pub fn advance<M: Marks>(&mut self, marks: &M)
         ensures first { self.new.machine.first ≡ self.old.machine.first }
-        ensures mark { self.old.mark ≤ self.new.mark }
+        ensures mark { WantsAdvance self.old.machine.stage self.old.machine.is_lost
+            self.old.machine.due → NotesMark (M.tells marks.now) self.old.mark self.new.mark }
+        ensures idle { (WantsAdvance self.old.machine.stage self.old.machine.is_lost
+            self.old.machine.due → ⊥) → self.new.mark ≡ self.old.mark }
         ensures stream { self.new.machine.stream ≡ self.old.machine.stream }
         ensures answered { (count : ℕ)
             × Run P.hears P.says P.stops P.rests P.idle P.begun
@@ -237,14 +249,15 @@ impl<P: Protocol, S: Stream> Link<P, S> {
         let answers = self.wants_advance();
         self.answer_some();
         if answers {
-            self.mark = self.mark.max(marks.mark());
+            self.note(marks);
         }
     }
 
     /// Tries the request once more that waits.
     pub fn try_again<M: Marks>(&mut self, marks: &M)
         ensures first { self.new.machine.first ≡ self.old.machine.first }
-        ensures mark { self.old.mark ≤ self.new.mark }
+        ensures mark { self.old.machine.stage ≡ Stage.Waits
+            → NotesMark (M.tells marks.now) self.old.mark self.new.mark }
         ensures stream { self.new.machine.stream ≡ self.old.machine.stream }
         ensures tried { self.old.machine.stage ≡ Stage.Waits → (step : Result StepOf ServedOf)
             × (self.new.machine.stage ≡ stage_after step)
@@ -253,18 +266,19 @@ impl<P: Protocol, S: Stream> Link<P, S> {
             → AnswersNext P.hears P.says P.stops P.rests P.idle P.begun step before
             self.old.machine.due self.new.machine.due self.new.machine.protocol) }
         ensures others { self.old.machine.stage ≢ Stage.Waits
-            → self.new.machine ≡ self.old.machine }
+            → (self.new.machine ≡ self.old.machine) × (self.new.mark ≡ self.old.mark) }
     {
         if self.waits() {
             self.machine.step(true);
-            self.mark = self.mark.max(marks.mark());
+            self.note(marks);
         }
     }
 
     /// Tries the request that waits for the last time: if it has no answer it is answered as such.
     pub fn stop_waiting<M: Marks>(&mut self, marks: &M)
         ensures first { self.new.machine.first ≡ self.old.machine.first }
-        ensures mark { self.old.mark ≤ self.new.mark }
+        ensures mark { self.old.machine.stage ≡ Stage.Waits
+            → NotesMark (M.tells marks.now) self.old.mark self.new.mark }
         ensures stream { self.new.machine.stream ≡ self.old.machine.stream }
         ensures stopped { self.old.machine.stage ≡ Stage.Waits → (step : Result StepOf ServedOf)
             × (step ≢ Ok Later) × (self.new.machine.stage ≡ stage_after step)
@@ -272,11 +286,11 @@ impl<P: Protocol, S: Stream> Link<P, S> {
             → AnswersNext P.hears P.says P.stops P.rests P.idle P.begun step before
             self.old.machine.due self.new.machine.due self.new.machine.protocol) }
         ensures others { self.old.machine.stage ≢ Stage.Waits
-            → self.new.machine ≡ self.old.machine }
+            → (self.new.machine ≡ self.old.machine) × (self.new.mark ≡ self.old.mark) }
     {
         if self.waits() {
             self.machine.step(false);
-            self.mark = self.mark.max(marks.mark());
+            self.note(marks);
         }
     }
 

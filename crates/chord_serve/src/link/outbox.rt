@@ -5,7 +5,7 @@ ghost use Rattle.chord_serve.specs.Stepping.{AnswersNext, IsBefore};
 ghost use Rattle.chord_serve.specs.declared.link.stage.Step.TheVariants.{Later};
 ghost use Rattle.chord_serve.specs.Ends.{IsStop};
 
-use crate::due::Due;
+use crate::due::{Due, clear};
 use crate::link::protocol::Protocol;
 use crate::link::stage::Step;
 use crate::link::stream::Stream;
@@ -72,11 +72,7 @@ impl Outbox {
         ensures { self.new ≡ [] }
     {
         self.start = 0;
-        if self.due.bytes.capacity() > KEPT_BYTES {
-            self.due = Due::new(alloc);
-        } else {
-            self.due.clear(alloc);
-        }
+        clear(&mut self.due.bytes, alloc, KEPT_BYTES);
     }
 
     /// Takes this many bytes off the front.

@@ -31,9 +31,10 @@ say select 0\n > +OK|
 say client getname\n > $-1|
 say client id\n > :7|
 say command\n > *0|
-say command count\n > :24|
+say command count\n > :32|
 say config get x\n > *0|
 say info\n > $5|a:b||
+say time\n > *2|$10|1796123976|$6|343990|
 say get k\n > -ERR unknown command 'get'|
 say quit\n > Quit +OK|
 # nothing behind QUIT is answered
@@ -50,6 +51,14 @@ say shutdown NoSave now force save\n > Quit
 
 == hello
 say hello 2\n > *14|$6|server|$5|chord|$7|version|$5|7.0.0|$5|proto|:2|$2|id|:7|$4|mode|$10|standalone|$4|role|$6|master|$7|modules|*0|
+
+== no secret is set
+say auth default p\n > +OK|
+say hello 2 auth u p setname n\n > -WRONGPASS invalid username-password pair or user is disabled.|
+say multi\n > -ERR transactions are not served|
+say auth default p\n > +OK|
+say hello 2 auth default p setname n\n > *14|$6|server|$5|chord|$7|version|$5|7.0.0|$5|proto|:2|$2|id|:7|$4|mode|$10|standalone|$4|role|$6|master|$7|modules|*0|
+say auth u p\n > -ERR transactions are not served|
 
 == nothing of a transaction is done
 # each of its commands has one answer, and b is the one member that is added
@@ -105,7 +114,7 @@ say *3|$4|SADD|$1|k|$1|v|SMEMBERS k|PING| > Memory :1| asked +v?
 
 /// Whole connections, over devices that move few bytes in a call, and fail after some calls. The
 /// commands have 28, 12 and 6 bytes, and their answers 4, 11 and 7.
-const CONNECTIONS: &str = r"
+const CONNECTIONS: &str = r#"
 == commands cut anywhere are answered as far as they are whole
 serve cut 0..0 *3|$4|SADD|$1|k|$1|v|SMEMBERS k|PING| > Ended, asked 0, reads 1, writes 0
 serve cut 1..27 *3|$4|SADD|$1|k|$1|v|SMEMBERS k|PING| > Truncated, asked 0, reads 2, writes 0
@@ -146,12 +155,18 @@ serve reads 28x100 turns 3 *3|$4|SADD|$1|k|$1|v|SMEMBERS k|PING| > Ended :1|*1|$
 serve PING|*x|PING| > Protocol +PONG|-ERR Protocol error: invalid multibulk length|, asked 0, reads 1, writes 1
 serve *1|PING| > Protocol -ERR Protocol error: expected '$', got 'P'|, asked 0, reads 1, writes 1
 serve *1|$4|PINGS| > Protocol -ERR Protocol error: invalid bulk length|, asked 0, reads 1, writes 1
-serve *1025| > Protocol -ERR Protocol error: invalid multibulk length|, asked 0, reads 1, writes 1
+serve *1048577| > Protocol -ERR Protocol error: invalid multibulk length|, asked 0, reads 1, writes 1
+serve PING|SADD k "v|PING| > Protocol +PONG|-ERR Protocol error: unbalanced quotes in request|, asked 0, reads 1, writes 1
 serve SADD k v|QUIT|SADD k w| > Quit :1|+OK|, asked 1, reads 1, writes 1
+
+== a command of more than 1,022 members is refused, and the connection goes on
+many 1022 > Ended :0|+PONG|, asked 1022, reads 3, writes 1
+many 1023 > Ended -ERR too many arguments, at most 1,022 members|+PONG|, asked 0, reads 3, writes 1
+many 5000 > Ended -ERR too many arguments, at most 1,022 members|+PONG|, asked 0, reads 10, writes 1
 
 == the server tells its text and the connections number
 serve INFO|CLIENT ID| > Ended $5|a:b||:7|, asked 0, reads 2, writes 1
-";
+"#;
 
 /// Links: commands of each kind, with several requests, with one and with none, one that is
 /// refused, INFO, and what is behind QUIT.

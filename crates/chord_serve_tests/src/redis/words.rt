@@ -10,7 +10,7 @@ use spelling::Spelling;
 use std::test::Fail;
 
 /// Streams and the commands that they spell.
-const READ: &str = r"
+const READ: &str = r#"
 == reads what clients write
 read > Between
 read *1|$4|PING| > PING,; Between
@@ -22,10 +22,11 @@ read *10|$1|a|$1|b|$1|c|$1|d|$1|e|$1|f|$1|g|$1|h|$1|i|$1|j| > a,b,c,d,e,f,g,h,i,
 read *01|$001|a| > a,; Between
 read ping| > ping,; Between
 read ping\n > ping,; Between
-read \x20 sadd  k m\x09 |b\n > sadd,k,m\x09,;b,; Between
+read \x20 sadd  k m\x09 |b\n > sadd,k,m,;b,; Between
 read |\n  \n > Between
-read a\rb| > a\rb,; Between
+read a\rb| > a,b,; Between
 read *1|$2|a > Within
+read *1048576|$1|a| > Within
 read pin > Within
 read sadd k HTTP/1.1| > sadd,k,HTTP/1.1,; Between
 read get / http/1.1| > get,/,http/1.1,; Between
@@ -36,11 +37,45 @@ read posts\nhost\na post\na host:\n > posts,;host,;a,post,;a,host:,; Between
 read *3|$4|POST|$5|Host:|$8|HTTP/1.1| > POST,Host:,HTTP/1.1,; Between
 read *1|$1|\x00| > \x00,; Between
 
+== reads quotes
+read SADD a "x y"| > SADD,a,x y,; Between
+read "sadd" a'b ' c"d "\n > sadd,ab ,cd ,; Between
+read 'a b' ''\x09""\r"c"| > a b,,,c,; Between
+# each byte that stands for another one, and those that stand for themselves
+read "\\n\\r\\t\\b\\a\\"\\\\\\q\\'"| > \n\r\x09\x08\x07"\\q',; Between
+read "\\x41\\x7e\\xfF\\xAfg"| > A~\xff\xafg,; Between
+# no two digits follow
+read "\\xg1\\x4\\x4g\\x\\x41"| > xg1x4x4gxA,; Between
+# in single quotes a `\` is itself, unless a `'` follows
+read 'a\\'b\\n\\\\c"'| > a'b\\n\\\\c",; Between
+# outside of quotes it is itself, and vertical tabs and form feeds part no words
+read a\\n\x0b\x0c \x0b\x0cb "c"\x0b| > a\\n\x0b\x0c,b,c,; Between
+read "POST"| > Foreign
+read "get /" x HTTP/1.1| > Foreign
+read 'get / HTTP/1.1'| > get / HTTP/1.1,; Between
+
+== quotes that are not closed, or have something behind them
+read ping|"| > ping,; Unbalanced
+read '\n > Unbalanced
+read "a| > Unbalanced
+read 'a\\'| > Unbalanced
+read "a\\"| > Unbalanced
+read "a\\| > Unbalanced
+read "a\\x| > Unbalanced
+read "a\\x4| > Unbalanced
+read 'a\\| > Unbalanced
+read "a"b| > Unbalanced
+read ''b| > Unbalanced
+read a"b"c| > Unbalanced
+read "a""b"| > Unbalanced
+# before what a line of HTTP is refused for
+read POST '| > Unbalanced
+
 == ends at the first error
 read *x| > BadCount
 read *| > BadCount
 read *-1| > BadCount
-read *1025| > BadCount
+read *1048577| > BadCount
 read *1\n > BadCount
 read *1\r\r > BadCount
 read *1|:1| > NoDollar(58)
@@ -82,6 +117,15 @@ once GET HTTP/1.1 HTTP/1.1{5000}| > Foreign
 words 1024 > a,a,a,a,a,a,a,a,a,a,a,a,a,a,a,a,<1024 words>; Between
 words 1025 > TooLong
 
+== a longer command is read to its end, and the next one behind it
+array 1024 > a,a,a,a,a,a,a,a,a,a,a,a,a,a,a,a,<1024 words>;PING,; Between
+array 1025 > a,a,a,a,a,a,a,a,a,a,a,a,a,a,a,a,<1025 words>;PING,; Between
+# no more words of it are known
+array 3000 > a,a,a,a,a,a,a,a,a,a,a,a,a,a,a,a,<1025 words>;PING,; Between
+begin 3000 > Fed; left 21004
+next > Within; left 0
+kept > 1024
+
 == an error stays
 feed *1|:ping| > Fed; left 11
 # nothing behind the error is read, and the same call answers it again
@@ -112,7 +156,7 @@ kept > 4
 
 == words are taken out
 take *2|$3|get|$1|k| > get,k,;
-";
+"#;
 
 /// A command of words and an inline one, of a long word.
 pub const GROWING: &str = r"
@@ -152,24 +196,59 @@ call echo\n > ERR wrong number of arguments for 'echo' command
 call select 0\n > Accept
 call select 1\n > ERR DB index is out of range
 call client setname x\n > Accept
+call *3|$6|client|$7|setname|$3|a b| > ERR Client names cannot contain spaces, newlines or special characters.
+call client setname x y\n > ERR wrong number of arguments for 'client' command
 call client SETINFO lib-name x\n > Accept
 call client no-evict on\n > Accept
 call client no-touch on\n > Accept
 call client setinfo x\n > ERR wrong number of arguments for 'client' command
 call client getname\n > Name
 call client id\n > Number
+call CLIENT LIST\n > ERR unknown subcommand 'LIST'. Try CLIENT HELP.
 call CLIENT kill x\n > ERR unknown subcommand 'kill'. Try CLIENT HELP.
 call client\n > ERR wrong number of arguments for 'client' command
 call hello\n > Hello
 call hello 2\n > Hello
 call hello 3\n > NOPROTO unsupported protocol version
+call hello 3 auth u p\n > NOPROTO unsupported protocol version
+call hello 2 AUTH default p\n > Hello
+call hello 2 setname n\n > Hello
+call hello 2 setname a setname b auth default p\n > Hello
+call *4|$5|hello|$1|2|$7|setname|$0|| > Hello
+call hello 2 setname {4097}\n > Hello
+call hello 2 auth u p\n > WRONGPASS invalid username-password pair or user is disabled.
+call hello 2 auth Default p setname n\n > WRONGPASS invalid username-password pair or user is disabled.
+call hello 2 setname n auth u p\n > WRONGPASS invalid username-password pair or user is disabled.
+call hello 2 AUTH default\n > ERR Syntax error in HELLO option 'AUTH'
+call hello 2 AUTH\n > ERR Syntax error in HELLO option 'AUTH'
+call hello 2 setname\n > ERR Syntax error in HELLO option 'setname'
+call hello 2 foo auth u p\n > ERR Syntax error in HELLO option 'foo'
+call hello 2 auth default p foo\n > ERR Syntax error in HELLO option 'foo'
+call *4|$5|hello|$1|2|$7|setname|$3|a b| > ERR Client names cannot contain spaces, newlines or special characters.
+call hello 2 setname a\x7f\n > ERR Client names cannot contain spaces, newlines or special characters.
+call FLUSHALL\n > ERR 'flushall' is not served
+call expire k 10\n > ERR 'expire' is not served
+call move k 1\n > ERR 'move' is not served
+call spop k\n > ERR 'spop' is not served
+call smove k l a\n > ERR 'smove' is not served
+call memory usage k\n > ERR 'memory' is not served
+call time\n > Time
+call time 0\n > ERR wrong number of arguments for 'time' command
+call auth default p\n > Auth
+call auth u p\n > WRONGPASS invalid username-password pair or user is disabled.
+call auth p\n > ERR AUTH <password> called without any password configured for the default user. Are you sure your configuration is correct?
+call auth a b c\n > ERR syntax error
+call auth\n > ERR wrong number of arguments for 'auth' command
 call command\n > Nothing
 call command docs ping\n > Nothing
 call command info ping echo\n > Nothing
 call command count\n > Commands
 call command list\n > ERR unknown subcommand 'list'. Try COMMAND HELP.
 call config get save\n > Nothing
-call config set save x\n > ERR unknown subcommand 'set'. Try CONFIG HELP.
+call CONFIG SET save x\n > ERR unknown subcommand 'SET'. Try CONFIG HELP.
+call config\n > ERR wrong number of arguments for 'config' command
+# at most 128 bytes are shown
+call client {129}\n > ERR unknown subcommand 'xxxxxxxxxxxxxxxxxxxxxxxxxxxxxxxxxxxxxxxxxxxxxxxxxxxxxxxxxxxxxxxxxxxxxxxxxxxxxxxxxxxxxxxxxxxxxxxxxxxxxxxxxxxxxxxxxxxxxxxxxxxxxxxx'. Try CLIENT HELP.
 call info\n > Info
 call info server\n > Info
 call quit\n > Quit
@@ -236,6 +315,7 @@ refusal NoAnswer 0/1 > +OK|-TRYAGAIN no answer in time, it may have acted|
 refusal BadCount > +OK|-ERR Protocol error: invalid multibulk length|
 refusal BadLength > +OK|-ERR Protocol error: invalid bulk length|
 refusal TooLong > +OK|-ERR Protocol error: too big inline request|
+refusal Unbalanced > +OK|-ERR Protocol error: unbalanced quotes in request|
 refusal NoDollar : > +OK|-ERR Protocol error: expected '$', got ':'|
 # a byte that can't be printed
 refusal NoDollar \r > +OK|-ERR Protocol error: expected '$', got '?'|
@@ -263,6 +343,9 @@ fn answers_are_bytes(rt: HostRuntime) -> Result<(), Fail> {
 fn laws_can_be_called(_rt: HostRuntime) {
     laws::cuts_do_not_matter();
     laws::arrays_are_read();
+    laws::long_arrays_are_read();
+    laws::long_commands_are_refused();
+    laws::little_is_kept();
     laws::inline_commands_are_read();
     laws::lines_are_read();
     laws::lines_with_a_byte_0_are_refused();

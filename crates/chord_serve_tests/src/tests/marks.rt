@@ -1,4 +1,5 @@
 //! Answers wait until the changes are written that they may show.
+ghost use Rattle.std.specs.Prelude.{◌≡◌};
 
 use crate::askers::{NO_TROUBLE, Scripted, server};
 use chord_resp_serve::CommandProtocol;
@@ -14,6 +15,8 @@ struct Changes {
 }
 
 impl Marks for Changes {
+    ghost tells = { λ changes mark. mark ≡ changes.mark };
+
     fn mark(&self) -> u64 {
         self.mark
     }

@@ -5,10 +5,10 @@ use crate::checks::check;
 use chord_ident::Id;
 use chord_links::{Links, Peer};
 use chord_ring::{
-    CandidateFault, DropFault, MemberReader, NotBetween, RingCore, RingDid, RingFault, RingStep,
-    StabiliseFault, can_depart_among, can_depart_in, drop_dead, drop_dead_in, join_behind,
-    principals_stand_on_one_ring, rectify, rectify_in, stabilise, stabilise_in, take_candidate,
-    take_candidate_in,
+    CandidateFault, DropFault, MemberReader, MemberRow, NotBetween, RingCore, RingDid, RingFault,
+    RingStep, StabiliseFault, can_depart_among, can_depart_in, drop_dead, drop_dead_in,
+    join_behind, principals_stand_on_one_ring, rectify, rectify_in, stabilise, stabilise_in,
+    take_candidate, take_candidate_in,
 };
 use std::alloc::Global;
 use std::process::Abort;
@@ -109,9 +109,20 @@ fn steps_change_links(rt: HostRuntime) {
     check!(&rt; take_candidate(&mut mine, &theirs, false) == Err(CandidateFault::Dead));
     check!(&rt; take_candidate(&mut mine, &theirs, true) == Ok(()));
     check!(&rt; mine.list().entries() == [c, a].as_slice());
-    let members = [Some(mine), Some(theirs)];
-    check!(&rt; can_depart_among(&members, 1) && !can_depart_among(&members, 0));
-    check!(&rt; !can_depart_among(&members, 2));
+    let rows = [
+        MemberRow {
+            number: 1,
+            links: theirs,
+        },
+        MemberRow {
+            number: 0,
+            links: mine,
+        },
+    ];
+    check!(&rt; can_depart_among(&rows, 2, 1), "A stays a principal without C");
+    check!(&rt; !can_depart_among(&rows, 2, 0), "C's list has A alone");
+    check!(&rt; !can_depart_among(&rows, 3, 2), "node 2 departed");
+    check!(&rt; !can_depart_among(&rows, 1, 1), "no node 1 ever joined");
     check!(&rt; take_candidate(&mut mine, &theirs, true) == Err(CandidateFault::NotCloser));
     check!(&rt; drop_dead(&mut mine, true) == Err(DropFault::HeadLive));
     check!(&rt; drop_dead(&mut mine, false) == Ok(()));
@@ -128,6 +139,8 @@ struct Members<'a> {
 impl MemberReader for Members<'_> {
     ghost ring = { λ members. record { ids = []; members = members.links.now } };
 
+    ghost number_at = { λ members place. place };
+
     fn member(&self, number: u64) -> Option<&Links> {
         match self.links.get(number as usize) {
             Some(Some(links)) => Some(links),
@@ -137,6 +150,14 @@ impl MemberReader for Members<'_> {
 
     fn count(&self) -> u64 {
         self.links.len() as u64
+    }
+
+    fn listed(&self) -> u64 {
+        self.count()
+    }
+
+    fn listed_at(&self, place: u64) -> u64 {
+        place
     }
 }
 

@@ -6,7 +6,8 @@ use Rattle.chord_ring.specs.Ring.{links_of}
 use Rattle.chord_ring.proofs.departing.is_principal.Given as goal
 
 -- no member so far skips it
-abbrev pub invariant-loop-other : goal.invariant-loop-other
-invariant-loop-other g l =
-    (node : ℕ) → node < l.other → (theirs : NodeLinks) → links_of (slice_set (g.M.MemberReader.ring l.members).members l.gone None) node ≡ Some theirs
+abbrev pub invariant-loop-place : goal.invariant-loop-place
+invariant-loop-place g l =
+    (place : ℕ) → place < l.place → (theirs : NodeLinks)
+    → links_of (slice_set (g.M.MemberReader.ring l.members).members l.gone None) (g.M.MemberReader.number_at l.members place) ≡ Some theirs
     → ¬ (Skips theirs.me.id.number theirs.entries l.id.number)

@@ -1,5 +1,5 @@
 //! Scripts of connections over an asker with a plain map, in bytes as `escapes` has them. The
-//! connection has the number 7, and INFO tells the line `a:b`.
+//! connection has the number 7, INFO tells the line `a:b`, and TIME always the same moment.
 //!
 //! - `say PING|`: what the connection writes for this behind all that was said before, and which
 //!   requests it asks: `+a` inserts a, `-a` removes it, `?` retrieves, and a `!` if one did not
@@ -9,6 +9,7 @@
 //!   and how many reads and writes did not fail. Before the bytes may stand, in this order, `cut
 //!   1..27`, with each of these lengths of them the same comes; `reads 9x4` and `writes 7x1`, at
 //!   most 9 bytes a call, of which the fifth fails; and `turns 3`.
+//! - `many 1023`: the same of SREM with 1,023 members, and PING.
 //! - `link 7 1 PING|`: a link with reads of 7 bytes, whose commands are stopped behind one try of
 //!   their requests: its end, what it writes, how many requests it asks, with a `!` if one did not
 //!   give up those before it, and how many tries there were. `slow 7 1 PING|`: one over an asker
@@ -22,13 +23,22 @@ use crate::escapes::{EscapedText, escaped};
 use crate::options::{Devices, devices_after, differs, front, lengths};
 use chord_app_text::{GrammarFault, LineFault, Words};
 use chord_map::Request;
+use chord_resp::{put_bulk, put_count};
 use chord_resp_serve::{CommandProtocol, serve_commands};
 use chord_serve::{Link, Pair, ReadSize, Served};
-use chord_serve_testkit::{Limited, Limits};
+use chord_serve_testkit::{FREE, Limited, Limits};
 use chord_testkit::{Fresh, MEMORY, Subject, Text, name_of};
 use std::alloc::Global;
 use std::mem;
 use std::str::from_utf8;
+
+/// Devices that move all bytes in few calls.
+const ALL_AT_ONCE: Devices = Devices {
+    reads: FREE,
+    writes: FREE,
+    size: ReadSize::Small,
+    turns: 100,
+};
 
 /// What was said, what was heard, and how much of it behind each line.
 #[derive(Drop)]
@@ -66,6 +76,10 @@ impl Subject for Talking {
                 Ok(Text::of("Set"))
             }
             "serve" => serve(alloc, words),
+            "many" => {
+                let input = many(alloc, words.number()?)?;
+                Ok(served(alloc, &input, ALL_AT_ONCE))
+            }
             "link" => link(alloc, NO_TROUBLE, words),
             "slow" => link(alloc, SLOW, words),
             word => foreign_deed(alloc, word, words),
@@ -181,6 +195,19 @@ fn serve(alloc: Global, words: &mut Words) -> Result<Text, LineFault> {
         }
     }
     Ok(all.unwrap_or(Text::of("none")))
+}
+
+/// SREM with so many members, and PING.
+fn many(alloc: Global, members: u64) -> Result<Vec<u8>, LineFault> {
+    let mut out = Vec::new(alloc);
+    put_count(&mut out, members.saturating_add(2) as usize)?;
+    put_bulk(&mut out, b"SREM")?;
+    put_bulk(&mut out, b"k")?;
+    for _ in 0..members {
+        put_bulk(&mut out, b"m")?;
+    }
+    out.extend_from_slice(b"PING\r\n")?;
+    Ok(out)
 }
 
 fn served(alloc: Global, input: &[u8], devices: Devices) -> Text {

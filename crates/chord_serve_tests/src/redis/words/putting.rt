@@ -81,6 +81,7 @@ pub fn refusal(alloc: Global, words: &mut Words) -> Result<Text, LineFault> {
         "BadCount" => Refusal::Protocol(ProtocolError::BadCount),
         "BadLength" => Refusal::Protocol(ProtocolError::BadLength),
         "TooLong" => Refusal::Protocol(ProtocolError::TooLong),
+        "Unbalanced" => Refusal::Protocol(ProtocolError::Unbalanced),
         "NoDollar" => match escaped_word(alloc, words)?.as_slice() {
             [byte] => Refusal::Protocol(ProtocolError::NoDollar(*byte)),
             _ => return Err(GrammarFault::NoLine.into()),

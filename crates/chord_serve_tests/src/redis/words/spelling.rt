@@ -2,9 +2,10 @@
 //!
 //! - `read PING|`: the commands of a stream, each word with a comma and each command with a
 //!   semicolon behind it, and why reading stopped, wherever the stream is cut. `once PING|`: uncut.
-//!   `words 1024`: of a line of 1,024 words. `feed PING|`, `next`: in a stream that goes on.
-//!   `kept`: how many bytes are kept of a command in part. `take get k|`: the words, taken out of
-//!   the command.
+//!   `words 1024`: of a line of 1,024 words. `array 1025`: of an array of 1,025 words of one letter,
+//!   with PING behind it. `feed PING|`, `next`: in a stream that goes on. `begin 3000`: feeds such an
+//!   array without the end of its last word. `kept`: how many bytes are kept of a command in part.
+//!   `take get k|`: the words, taken out of the command.
 //! - `call SADD k a|`: what the first command calls for, or its refusal.
 //! - `verb sMembers`, `verb <4097>`, `name SADD`: the verb of a word, of one of 4,097 bytes, and of
 //!   bytes, with its text. `takes smembers 1`: whether one word may follow.
@@ -18,10 +19,10 @@
 use super::commands::{call, shown};
 use super::putting::{put, refusal};
 use crate::escapes::{escaped, escaped_word};
-use crate::options::is_next;
+use crate::options::{front, is_next};
 use chord_app_text::{GrammarFault, LineFault, Words as Line};
 use chord_map::Bytes;
-use chord_resp::{Commands, ReadError, Verb, Word, is_text};
+use chord_resp::{Commands, ReadError, Verb, Word, is_text, put_bulk, put_count};
 use chord_testkit::{Fresh, MEMORY, Subject, Text, name_of, yes_or_no};
 use std::alloc::Global;
 
@@ -47,6 +48,16 @@ impl Subject for Spelling {
             "read" => Ok(read_cut(alloc, &escaped(alloc, words)?)),
             "once" => Ok(read(alloc, &escaped(alloc, words)?, b"")),
             "words" => Ok(read(alloc, &many_words(alloc, words)?, b"")),
+            "array" => {
+                let mut bytes = many_in_array(alloc, words.number()?)?;
+                bytes.extend_from_slice(b"PING\r\n")?;
+                Ok(read(alloc, &bytes, b""))
+            }
+            "begin" => {
+                let bytes = many_in_array(alloc, words.number()?)?;
+                let len = bytes.len().saturating_sub(3) as u64;
+                Ok(feed(&mut self.commands, front(&bytes, len)?))
+            }
             "feed" => Ok(feed(&mut self.commands, &escaped(alloc, words)?)),
             "next" => Ok(read_on(Text::of(""), &mut self.commands)),
             "kept" => Ok(kept(&self.commands)),
@@ -114,6 +125,16 @@ fn many_words(alloc: Global, words: &mut Line) -> Result<Vec<u8>, LineFault> {
         out.extend_from_slice(b"a ")?;
     }
     out.push(b'\n')?;
+    Ok(out)
+}
+
+/// The same as an array.
+fn many_in_array(alloc: Global, count: u64) -> Result<Vec<u8>, LineFault> {
+    let mut out = Vec::new(alloc);
+    put_count(&mut out, count as usize)?;
+    for _ in 0..count {
+        put_bulk(&mut out, b"a")?;
+    }
     Ok(out)
 }
 

@@ -12,6 +12,7 @@ returns-then-closed g c =
     let as_many = length-map back.items (λ (sight : CallerSight). sight.caller) in (
       closed.result.seats,
       closed.ensures.whole c.if-closed.true,
+      closed.ensures.counted c.if-closed.true,
       ap (λ (callers : List Caller). length callers) closed.ensures.callers
           ∙ (as_many ∙ (sym back.ok.0 ∙ sym c.len-count.ensures)),
     )

@@ -1,10 +1,11 @@
-use Rattle.std.proofs.Common.{◌+◌, Bool, sym, ap, ◌∙◌, rules}
+use Rattle.std.proofs.Common.{◌≡◌, ◌≤◌, ◌+◌, Bool, sym, ap, ◌∙◌, length, rules}
 use Rattle.chord_live_ring.proofs.Coming.{shown_by}
-use Rattle.chord_live_ring.proofs.Departures.{at_node, back_messages, back_shows, can_go, given_err, given_ok, last_kept, last_left, last_node, leaves_empty, may_after, may_next, seated_back, seated_left, shown_after, taken_next}
+use Rattle.chord_live_ring.proofs.Departures.{back_messages, back_shows, can_go, few_next, given_err, given_ok, last_kept, last_left, last_node, leaves_empty, may_after, may_next, rows_next, seated_back, seated_left, shown_after}
 use Rattle.chord_live_ring.specs.Departures.{crashed_after, node_after}
 use Rattle.chord_live_ring.specs.Sights.{Seated}
-use Rattle.chord_live_steps.specs.Departures.{AreTaken, MayDepart, departed}
+use Rattle.chord_live_steps.specs.Departures.{MayDepart, departed, rows_among}
 use Rattle.chord_model.specs.Node.{Node}
+use Rattle.chord_table.specs.Scenes.{place_of}
 use Rattle.chord_table.specs.Views.{as_actor}
 use Rattle.chord_live_ring.proofs.ring.Ring.+depart.Goals as goal
 
@@ -13,13 +14,14 @@ lend-depart_from-requires g t c =
     let seat = c.in-Some-replace.seat in
     let there = sym c.replace.ensures.value ∙ c.in-Some-replace.is in
     let shows = shown_by c.seated.inside.node c.seated.inside.crashed c.seated.inside.seat seat there c.seated.invariant in
-    let own = sym (ap (λ (n : Node). n.number) shows.0) ∙ at_node c.seated.inside.node.number c.number.result c.args.at (ap (λ (s : Seated). s.node.number) c.seated.view_is) c.number.ensures c.if-number-at.false in
     let can = can_go c.args.departure c.args.seated.now c.departure_fault.result c.departure_fault.ensures.retire c.in_default.not-Some in
-    let taken : AreTaken (c.args.at + 1) c.take_node.new.self.taken c.post.new.self =
-    taken_next c.args.at c.args.numbers.now c.take_node.new.self c.args.board.now c.post.new.self c.seated.inside.node c.seated.inside.crashed seat c.take_node.ensures c.requires.taken own shows.0 shows.1 c.post.ensures in
-    let may : MayDepart c.args.departure (c.args.at + 1) c.take_node.new.self.taken =
-    may_after c.args.departure (c.args.at + 1) c.args.numbers.now c.take_node.new.self (as_actor seat) c.take_node.ensures
-    (may_next c.args.departure c.args.at c.args.numbers.now.taken c.args.seated.now seat own (sym (ap (λ (s : Seated). s.node) c.seated.view_is) ∙ shows.0)
+    let few : length c.post.new.self ≤ c.args.at + 1 =
+    few_next c.args.board.now c.post.new.self c.seated.inside.node.number c.args.at (place_of c.seated.inside.crashed c.seated.inside.node) c.requires.few c.post.ensures in
+    let board : c.post.new.self ≡ rows_among c.take_node.new.self.taken =
+    rows_next c.args.numbers.now c.take_node.new.self c.args.board.now c.post.new.self c.seated.inside.node c.seated.inside.crashed seat c.take_node.ensures c.requires.board shows.0 shows.1 c.post.ensures in
+    let may : MayDepart c.args.departure c.take_node.new.self.taken =
+    may_after c.args.departure c.args.numbers.now c.take_node.new.self (as_actor seat) c.take_node.ensures
+    (may_next c.args.departure c.args.numbers.now.taken c.args.seated.now seat (sym (ap (λ (s : Seated). s.node) c.seated.view_is) ∙ shows.0)
     (sym (ap (λ (s : Seated). s.crashed) c.seated.view_is) ∙ shows.1) can c.requires.may) in
     search rules
 

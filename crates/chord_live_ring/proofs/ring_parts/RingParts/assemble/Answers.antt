@@ -6,9 +6,6 @@ use Rattle.chord_live_ring.proofs.ring_parts.RingParts.assemble.Goals as goal
 pub assemble-table-requires : goal.assemble-table-requires
 assemble-table-requires g c = ap (λ (p : Parts). p.name) c.self.view_is ∙ c.requires
 
-pub new-numbers-requires-clause-slots : goal.new-numbers-requires-clause-slots
-new-numbers-requires-clause-slots g c = sym c.self.inside.slots ∙ ap (λ (n : Name). n.slots) (ap (λ (p : Parts). p.name) c.self.view_is ∙ c.requires)
-
 pub new-numbers-requires-clause-places : goal.new-numbers-requires-clause-places
 new-numbers-requires-clause-places g c = sym c.self.inside.callers ∙ ap (λ (n : Name). n.callers) (ap (λ (p : Parts). p.name) c.self.view_is ∙ c.requires)
 

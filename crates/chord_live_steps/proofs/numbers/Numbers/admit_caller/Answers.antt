@@ -1,6 +1,6 @@
-use Rattle.std.proofs.Common.{ap, refl}
+use Rattle.std.proofs.Common.{ap, sym, refl, ◌∙◌, length}
 use Rattle.chord_live_steps.proofs.Counting.{open_may, caller_registered}
-use Rattle.chord_table.specs.Views.{Assembled}
+use Rattle.chord_table.specs.Views.{Assembled, nodes_among}
 use Rattle.chord_live_steps.proofs.numbers.Numbers.admit_caller.Goals as goal
 
 pub admit_caller-seat-requires-clause-may : goal.admit_caller-seat-requires-clause-may
@@ -10,5 +10,6 @@ admit_caller-seat-requires-clause-may g c =
 pub invariant_of-self : goal.invariant_of-self
 invariant_of-self g c =
     let i = c.self.invariant in
-    let register = ap (λ (a : Assembled). a.register) c.admit_caller-seat.ensures.admitted in
-    (i.0, i.1, caller_registered c.self.inside.registrar.register _ c.self.inside.nodes c.self.inside.callers c.self.inside.callers c.self.inside.ids.items c.self.inside.premise i.2 refl register)
+    let admitted = c.admit_caller-seat.ensures.admitted in
+    let held = i.0 ∙ ap (λ (a : Assembled). length (nodes_among a.taken)) (sym admitted) in
+    (held, i.1, caller_registered c.self.inside.registrar.register _ c.self.inside.callers c.self.inside.callers c.self.inside.ids.items c.self.inside.premise i.2 refl (ap (λ (a : Assembled). a.register) admitted))

@@ -6,5 +6,5 @@ pub returns : goal.returns
 returns c =
     let s = c.args.self.now in
     let line = c.in-Some.line in
-    let read = count_read c.args.bytes.now s.wanted s.words s.partial line.number line.length c.in-Some.ensures c.if-bytes-ne42.false c.if-line-eq0.false in
-    (read.0, grind (arith, read.1, c.requires, c.restart.ensures, c.self.view_is))
+    let read = count_read c.args.bytes.now s.left s.words s.partial line.number line.length c.in-Some.ensures c.if-bytes-ne42.false c.if-line-eq0.false in
+    (read.0, grind (arith, read.1, c.requires, c.expect.ensures))
