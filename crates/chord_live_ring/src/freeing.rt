@@ -43,9 +43,9 @@ impl<J: Naming, S: EntryStore> Ring<J, S> {
         None
     }
 
-    /// Frees a slot, if its node is gone and no outbox has an item for it. From then on none comes
-    /// anew, since nothing is given to a node that is gone: so the outboxes are looked at one after
-    /// another. Envelopes that wait in the slot are dropped: whoever sent a request sends it again.
+    /// Frees a slot, if its node is gone, no outbox has an item for it and no member's links name it.
+    /// From then on none comes anew, since nothing is given to a node that is gone: so the outboxes
+    /// are looked at one after another. Envelopes that wait in the slot are dropped: whoever sent a request sends it again.
     fn free(&self, rt: &impl Wait, numbers: &mut Numbers<J>, index: usize) -> bool
         requires { index < J.name.slots }
         ensures out { AreOut numbers.old.taken → AreOut numbers.new.taken }
@@ -56,7 +56,10 @@ impl<J: Naming, S: EntryStore> Ring<J, S> {
         let Some(number) = self.number_at(index as u64) else {
             return false;
         };
-        if !slot.state.lock(rt).is_gone(number) || self.is_awaited(rt, number) {
+        if !slot.state.lock(rt).is_gone(number) {
+            return false;
+        }
+        if self.is_awaited(rt, number) || self.is_named(rt, number) {
             return false;
         }
         let mut guard = slot.state.lock(rt);
@@ -79,6 +82,27 @@ impl<J: Naming, S: EntryStore> Ring<J, S> {
         self.slots
             .iter()
             .any(|slot| slot.state.lock(rt).gives_to(number))
+    }
+
+    /// Whether the links of some member name the node of this number, at a look at one member after
+    /// another.
+    fn is_listed(&self, rt: &impl Wait, number: u64) -> bool {
+        self.slots
+            .iter()
+            .any(|slot| slot.state.lock(rt).names(number))
+    }
+
+    /// Whether the links of some member name the node of this number, which is gone: a member drops
+    /// such a first entry, and forgets such a predecessor, only while that has its slot. A list that
+    /// is copied has an entry one place farther back, so one that moves from list to list during
+    /// each of these looks is in none after the last.
+    fn is_named(&self, rt: &impl Wait, number: u64) -> bool {
+        for _ in 0..self.settings.successors {
+            if self.is_listed(rt, number) {
+                return true;
+            }
+        }
+        self.is_listed(rt, number)
     }
 
     /// Makes a slot vacant if it has the node of this number, and that is gone. Its seat stays with

@@ -9,7 +9,7 @@ ghost use Rattle.chord_node.specs.Pages.{PairsFromIs};
 
 use crate::seated_node::SeatedNode;
 use chord_ident::Id;
-use chord_links::Peer;
+use chord_links::{Links, Peer};
 use chord_live_steps::Numbers;
 use chord_node::{Holder, PairsPage, Phase};
 use chord_sight::NodeSight;
@@ -19,6 +19,20 @@ use crossbeam_channel::{Receiver, Sender};
 use std::alloc::{AllocError, Global};
 use std::sync::Mutex;
 use std::sync::atomic::{AtomicBool, AtomicU64};
+
+/// Whether these links name the node of this number, as the predecessor or in the list.
+fn is_named_by(links: &Links, number: u64) -> bool {
+    if let Some(peer) = links.predecessor() {
+        if peer.number == number {
+            return true;
+        }
+    }
+    links
+        .list()
+        .entries()
+        .iter()
+        .any(|peer| peer.number == number)
+}
 
 /// The state of a slot.
 #[derive(Drop)]
@@ -91,6 +105,14 @@ impl<J: Naming, S: EntryStore> SlotState<J, S> {
         match self {
             SlotState::Vacant => false,
             SlotState::Here(seated) | SlotState::Crashed(seated) => seated.gives_to(number),
+        }
+    }
+
+    /// Whether the node in the slot is a member whose links name the node of this number.
+    pub fn names(&self, number: u64) -> bool {
+        match self {
+            SlotState::Here(seated) => seated.is_member() && is_named_by(seated.links(), number),
+            SlotState::Vacant | SlotState::Crashed(_) => false,
         }
     }
 

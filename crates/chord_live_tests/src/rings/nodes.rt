@@ -88,6 +88,7 @@ join B 0 1 > NoSlot, back with 0, Ok(Added), Err(Full)
 tick 1 > Ok(Quiet)
 workers 0
 until given 0 > Done
+rounds 4 1 > Done
 join B 0 1 > 2@B
 admitted 1 > No
 
