@@ -53,7 +53,7 @@ fn is_count(count: Option<u64>, all: u64) -> bool
 }
 
 impl<J: Naming> Gathering<J> {
-    /// The seats that the registrar has: of so many nodes, and of no caller.
+    /// The seats that the registrar has: `held` of nodes, and none of a caller.
     fn of(registrar: Registrar<J>, held: u64) -> Gathering<J>
         requires nodes { length (nodes_among registrar.taken) ≡ held }
         requires callers { callers_among registrar.taken ≡ [] }

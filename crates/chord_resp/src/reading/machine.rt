@@ -45,7 +45,7 @@ impl Model for Machine {
 /// Nothing is left of a command.
 const NOTHING: Left = Left { words: 0, bytes: 0 };
 
-/// How many bytes the words of a command may have, if it has so many.
+/// How many bytes the words of a command may have, if it has this number of words.
 fn room_for(count: u32) -> u32
     ensures { result ≡ room_for count }
 {

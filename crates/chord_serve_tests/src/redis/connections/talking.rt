@@ -197,7 +197,7 @@ fn serve(alloc: Global, words: &mut Words) -> Result<Text, LineFault> {
     Ok(all.unwrap_or(Text::of("none")))
 }
 
-/// SREM with so many members, and PING.
+/// SREM with this number of members, and PING.
 fn many(alloc: Global, members: u64) -> Result<Vec<u8>, LineFault> {
     let mut out = Vec::new(alloc);
     put_count(&mut out, members.saturating_add(2) as usize)?;
