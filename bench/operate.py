@@ -313,15 +313,16 @@ def without_history(requests):
     return [key for key in by_key if not has_history(by_key[key])]
 
 
-def start(room, slots):
-    """Starts the server with this many slots, and gives it with the ports of its clients and its
-    operator."""
+def start(room, slots, more="--callers 64"):
+    """Starts the server with this many slots and more options, and gives it with the ports of its
+    clients and its operator."""
     plan = os.path.join(room, "plan.toml")
     with open(plan, "w") as it:
         it.write("slots = 16\ncallers = 64\nsuccessors = 4\ntries = 5\nwait = 200\n")
         for place in range(8):
             it.write(f'[[node]]\nid = "{place * 2:x}{"0" * 31}"\nstore = "tree"\n')
-    words = f"serve --port 0 --redis 0 --operator 0 --stay --until-input-ends --slots {slots} --callers 64 --plan".split()
+    doors = "serve --port 0 --redis 0 --operator 0 --stay --until-input-ends"
+    words = f"{doors} --slots {slots} {more} --plan".split()
     server = subprocess.Popen(
         [PROGRAM, *words, plan], stdin=subprocess.PIPE, stdout=subprocess.PIPE, text=True
     )

@@ -1,6 +1,8 @@
 -- What a store of any kind has. Source: our own.
 use Rattle.std.specs.Prelude.{ℕ, ◌-◌, ◌^◌, List}
 use Rattle.chord_map.specs.declared.pair.Pair.{Pair}
+use Rattle.chord_app_plan.specs.declared.node.PlanNode.{PlanNode}
+use Rattle.chord_app_serve.specs.Made as made
 use Rattle.chord_app.specs.declared.kind_store.KindStore.{KindStore}
 use Rattle.chord_app.specs.declared.kind_store.KindStore.TheVariants as store
 
@@ -13,3 +15,7 @@ content_of (store.List capped) = capped.pairs
 abbrev pub limit_of : KindStore → ℕ
 limit_of (store.Tree pairs) = 2 ^ 64 - 1
 limit_of (store.List capped) = capped.limit
+
+-- the most pairs that the store of a node of a plan may have
+abbrev pub limit_planned : PlanNode → ℕ
+limit_planned node = made.limit_of node.store

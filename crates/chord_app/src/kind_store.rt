@@ -1,7 +1,8 @@
 //! Stores of all kinds as one type.
-ghost use Rattle.chord_app.specs.Kinds.{content_of, limit_of};
+ghost use Rattle.std.specs.Prelude.{◌≡◌, map, IfOk};
+ghost use Rattle.chord_app.specs.Kinds.{content_of, limit_of, limit_planned};
 
-use chord_app_plan::StoreKind;
+use chord_app_plan::{Plan, StoreKind};
 use chord_app_serve::MadeStore;
 use chord_ident::{Id, Span};
 use chord_map::{Bytes, Pair, Values};
@@ -23,6 +24,17 @@ impl MadeStore for KindStore {
             _ => KindStore::List(CappedStore::make(alloc, kind)),
         }
     }
+}
+
+/// A store for each node of a plan, in the plan's order.
+pub fn stores_for(alloc: Global, plan: &Plan) -> Result<Vec<KindStore>, AllocError>
+    ensures { IfOk result (λ stores. map limit_of stores.items ≡ map limit_planned plan.now.nodes.items) }
+{
+    let mut stores = Vec::new(alloc);
+    for node in plan.nodes.iter() {
+        stores.push(KindStore::make(alloc, node.store))?;
+    }
+    Ok(stores)
 }
 
 impl EntryStore for KindStore {

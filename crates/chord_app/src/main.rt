@@ -12,7 +12,7 @@ ghost use Rattle.chord_app_plan.specs.Plan.{settings_with};
 
 mod kind_store;
 
-use crate::kind_store::KindStore;
+use crate::kind_store::{KindStore, stores_for};
 use chord_app_journal::{OpenedJournal, SyncRule, open_journal};
 use chord_app_options::{
     RingSource, ServeLine, commands, plan_path_of, print_fault, serve_line_of, start_ask,
@@ -27,7 +27,7 @@ use chord_app_text::Finish;
 use chord_app_world::{empty_ones, world};
 use clap::ArgMatches;
 use log::{Level, Logged};
-use std::alloc::{AllocError, Global};
+use std::alloc::Global;
 use std::hash::RandomState;
 use std::io::{self, IsTerminal, Stdin};
 use std::net::{Net, TcpListener, TcpStream};
@@ -195,15 +195,6 @@ fn port_of(door: &Option<OperatorDoor>) -> Option<OperatorPort<'_>> {
         Some(door) => Some(door.port()),
         None => None,
     }
-}
-
-/// A store for each node of a plan.
-fn stores_for(alloc: Global, plan: &Plan) -> Result<Vec<KindStore>, AllocError> {
-    let mut stores = Vec::new(alloc);
-    for node in plan.nodes.iter() {
-        stores.push(KindStore::make(alloc, node.store))?;
-    }
-    Ok(stores)
 }
 
 /// The input whose end ends a server that stays, if one does: a terminal's. Any other may be closed

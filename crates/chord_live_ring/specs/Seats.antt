@@ -1,6 +1,8 @@
 -- Nodes with their seats, which are lent to the register while a departure is judged.
 -- Source: our own.
-use Rattle.std.specs.Prelude.{◌≡◌, ℕ, Bool, true, false, Option, None, Some, List, []}
+use Rattle.std.specs.Prelude.{◌≡◌, ℕ, ◌==◌, ◌||◌, Bool, true, false, Option, None, Some, List, []}
+use Rattle.std.specs.List.{list_any}
+use Rattle.chord_links.specs.NodeLinks.{NodeLinks}
 use Rattle.chord_links.specs.declared.peer.Peer.{Peer}
 use Rattle.chord_model.specs.Node.{Node}
 use Rattle.chord_model.specs.declared.message.Message.{Message}
@@ -29,3 +31,16 @@ is_in false phase.Gone = false
 abbrev pub HasPredecessor : ℕ → Option Peer → Type 0
 HasPredecessor number None = ⊥
 HasPredecessor number (Some peer) = peer.number ≡ number
+
+-- whether this is the node of this number
+abbrev pub is_node : ℕ → Option Peer → Bool
+is_node number None = false
+is_node number (Some peer) = peer.number == number
+
+-- whether the node of this number is one of these
+abbrev pub has_node : ℕ → List Peer → Bool
+has_node number peers = list_any (λ (peer : Peer). peer.number == number) peers
+
+-- whether the links name the node of this number: as the predecessor or in the list
+abbrev pub are_naming : ℕ → NodeLinks → Bool
+are_naming number links = is_node number links.predecessor || has_node number links.entries

@@ -45,7 +45,8 @@ impl<J: Naming, S: EntryStore> Ring<J, S> {
 
     /// Frees a slot, if its node is gone, no outbox has an item for it and no member's links name it.
     /// From then on none comes anew, since nothing is given to a node that is gone: so the outboxes
-    /// are looked at one after another. Envelopes that wait in the slot are dropped: whoever sent a request sends it again.
+    /// are looked at one after another. Envelopes that wait in the slot are dropped: whoever sent a
+    /// request sends it again.
     fn free(&self, rt: &impl Wait, numbers: &mut Numbers<J>, index: usize) -> bool
         requires { index < J.name.slots }
         ensures out { AreOut numbers.old.taken → AreOut numbers.new.taken }

@@ -1,8 +1,9 @@
 //! Slots of nodes.
-ghost use Rattle.std.specs.Prelude.{◌≡◌, ◌≢◌, ◌↔◌, ◌<◌, [], false, true, Ok, None, IfOk, IfSome};
+ghost use Rattle.std.specs.Prelude.{◌≡◌, ◌≢◌, ◌↔◌, ◌<◌, ◌&&◌, [], false, true, Ok, None, IfOk, IfSome};
 ghost use Rattle.chord_live_ring.specs.declared.slot.SlotState.TheVariants.{Vacant, Here, Crashed};
 ghost use Rattle.chord_live_ring.specs.SeatedCalls.{rescued, with_links};
-ghost use Rattle.chord_live_ring.specs.Sights.{HoldingIs, IsPageShown, IsSightOf, SightIs};
+ghost use Rattle.chord_live_ring.specs.Seats.{are_naming, has_node, is_node};
+ghost use Rattle.chord_live_ring.specs.Sights.{HoldingIs, IsPageShown, IsSightOf, SightIs, is_member};
 ghost use Rattle.chord_live_steps.specs.Pieces.{GivesToIs};
 ghost use Rattle.chord_model.specs.declared.phase.Phase.TheVariants.{Gone};
 ghost use Rattle.chord_node.specs.Pages.{PairsFromIs};
@@ -20,18 +21,28 @@ use std::alloc::{AllocError, Global};
 use std::sync::Mutex;
 use std::sync::atomic::{AtomicBool, AtomicU64};
 
-/// Whether these links name the node of this number, as the predecessor or in the list.
-fn is_named_by(links: &Links, number: u64) -> bool {
-    if let Some(peer) = links.predecessor() {
-        if peer.number == number {
-            return true;
-        }
+/// Whether this is the node of this number.
+fn is_node(peer: Option<Peer>, number: u64) -> bool
+    ensures { result ≡ is_node number peer }
+{
+    match peer {
+        Some(peer) => peer.number == number,
+        None => false,
     }
-    links
-        .list()
-        .entries()
-        .iter()
-        .any(|peer| peer.number == number)
+}
+
+/// Whether the node of this number is one of these.
+fn has_node(peers: &[Peer], number: u64) -> bool
+    ensures { result ≡ has_node number peers.now }
+{
+    peers.iter().any(|peer| peer.number == number)
+}
+
+/// Whether these links name the node of this number, as the predecessor or in the list.
+fn are_naming(links: &Links, number: u64) -> bool
+    ensures { result ≡ are_naming number links.now }
+{
+    is_node(links.predecessor(), number) || has_node(links.list().entries(), number)
 }
 
 /// The state of a slot.
@@ -109,9 +120,13 @@ impl<J: Naming, S: EntryStore> SlotState<J, S> {
     }
 
     /// Whether the node in the slot is a member whose links name the node of this number.
-    pub fn names(&self, number: u64) -> bool {
+    pub fn names(&self, number: u64) -> bool
+        ensures vacant { self.now ≡ Vacant → result ≡ false }
+        ensures here { (seated : _) → self.now ≡ Here seated → result ≡ is_member seated && are_naming number seated.node.links }
+        ensures crashed { (seated : _) → self.now ≡ Crashed seated → result ≡ false }
+    {
         match self {
-            SlotState::Here(seated) => seated.is_member() && is_named_by(seated.links(), number),
+            SlotState::Here(seated) => seated.is_member() && are_naming(seated.links(), number),
             SlotState::Vacant | SlotState::Crashed(_) => false,
         }
     }

@@ -100,6 +100,11 @@ impl<J: Naming, S: EntryStore> Ring<J, S> {
             let came = self.receive(rt, &slot.envelopes, wakes, Duration::from_millis(IDLE));
             wakes = Wakes::after(came.is_some());
             if let Some(envelope) = came {
+                if !self.is_live(number) {
+                    // The slot may be another node's by now: whoever has it takes the envelope in.
+                    drop(slot.inbox.send(rt, envelope));
+                    return Ok(());
+                }
                 self.take_in(rt, number, probe, envelope);
             }
         }

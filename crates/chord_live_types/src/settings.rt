@@ -5,7 +5,7 @@ ghost use Rattle.chord_live_types.specs.Limits.{AreWithin};
 /// How large a ring is, and how long its callers wait.
 #[derive(Clone, Copy, Debug, PartialEq, Eq)]
 pub struct Settings {
-    /// How many nodes there may ever be, 1 to 4,096: a number is used once.
+    /// How many nodes have room at once, 1 to 4,096: each needs a slot until it is gone.
     pub slots: usize,
     /// How many callers there may be, at most 16,384.
     pub callers: usize,

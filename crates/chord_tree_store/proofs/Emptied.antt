@@ -1,6 +1,6 @@
 -- What slots by identifier have after slots were dropped.
 use Rattle.std.proofs.Common.{◌≡◌, ◌+◌, ◌<◌, ℕ, Bool, true, false, cond, not, eqb, ◌||◌, ◌&&◌, List, [], ◌∷◌, length, take, get_or, Option, None, Some, refl, sym, ap, ◌∙◌, subst, inl, inr, ⊎_elim}
-use Rattle.std.specs.FinMap.{FinMap, entries, get}
+use Rattle.std.specs.FinMap.{FinMap, get}
 use Rattle.std.specs.Ordering.{nat_cmp}
 use Rattle.std.proofs.lemmas.Bool.{true≢false, or_cases}
 use Rattle.std.proofs.lemmas.List.{take_more}
@@ -16,36 +16,35 @@ use Rattle.chord_map.proofs.Placed.{same_pairs}
 use Rattle.chord_tree_store.specs.declared.slot.Slot.{Slot}
 use Rattle.chord_store.specs.Inside.{pairs_inside, pairs_outside}
 use Rattle.chord_tree_store.specs.Shelf.{has_id}
-use Rattle.chord_tree_store.specs.Slots.{ArePlaced, pairs_in_order, slot_values}
-use Rattle.chord_tree_store.specs.ValueSet.{has_value}
+use Rattle.chord_tree_store.specs.Slot.{pairs_at}
+use Rattle.chord_tree_store.specs.Slots.{ArePlaced, pairs_in}
 use Rattle.chord_store.proofs.Inside.{rises_outside}
-use Rattle.chord_tree_store.proofs.Pairing.{had_value, slot_at-get}
-use Rattle.chord_tree_store.proofs.Placing.{none_some, rises-in_order}
+use Rattle.chord_tree_store.proofs.Gathered.{has-in, rises-in}
 use Rattle.chord_store.proofs.Puts.{lies_in}
 
 kept_some : (b : Bool) (o : Option Slot) (s : Slot) → cond b None o ≡ Some s → o ≡ Some s
-kept_some true o s held = absurd (none_some s held)
+kept_some true o s held = cc
 kept_some false o s held = held
 
-has_left : (b : Bool) (value key : List ℕ) (o : Option Slot) → has_value value (slot_values key (cond b None o)) ≡ (not b && has_value value (slot_values key o))
-has_left true value key o = refl
-has_left false value key o = refl
+has_left : (b : Bool) (q : Pair) (o : Option Slot) → has_pair q (pairs_at (cond b None o)) ≡ (not b && has_pair q (pairs_at o))
+has_left true q o = refl
+has_left false q o = refl
 
-module _ (m n : FinMap nat_cmp Slot) (placed : ArePlaced (entries m)) (drops : ℕ → Bool) (change : (id : ℕ) → get n id ≡ cond (drops id) None (get m id)) where
-  pub dropped_placed : ArePlaced (entries n)
-  dropped_placed id s held = placed id s (slot_at-get m id ∙ kept_some (drops id) (get m id) s (sym (change id) ∙ sym (slot_at-get n id) ∙ held))
+module _ (m n : FinMap nat_cmp Slot) (placed : ArePlaced m) (drops : ℕ → Bool) (change : (id : ℕ) → get n id ≡ cond (drops id) None (get m id)) where
+  pub dropped_placed : ArePlaced n
+  dropped_placed id s held = placed id s (kept_some (drops id) (get m id) s (sym (change id) ∙ held))
 
-  pub dropped_pairs : (span : Span) → ((q : Pair) → has_pair q (pairs_in_order (entries m)) ≡ true → drops (key_id q.key) ≡ in_span span (key_id q.key))
-      → pairs_in_order (entries n) ≡ pairs_outside span (pairs_in_order (entries m))
+  pub dropped_pairs : (span : Span) → ((q : Pair) → has_pair q (pairs_in m) ≡ true → drops (key_id q.key) ≡ in_span span (key_id q.key))
+      → pairs_in n ≡ pairs_outside span (pairs_in m)
   unfolding pairs_outside
   dropped_pairs span same =
-      let old = pairs_in_order (entries m) in
-      same_pairs (pairs_in_order (entries n)) (pairs_outside span old) (rises-in_order (entries n)) (rises_outside span old (rises-in_order (entries m))) (λ q.
+      let old = pairs_in m in
+      same_pairs (pairs_in n) (pairs_outside span old) (rises-in n) (rises_outside span old (rises-in m)) (λ q.
       let id = key_id q.key in
-      had_value n dropped_placed q.key q.value id refl
-      ∙ ap (λ o. has_value q.value (slot_values q.key o)) (change id)
-      ∙ has_left (drops id) q.value q.key (get m id)
-      ∙ ap (λ b. not (drops id) && b) (sym (had_value m placed q.key q.value id refl))
+      has-in n dropped_placed q
+      ∙ ap (λ o. has_pair q (pairs_at o)) (change id)
+      ∙ has_left (drops id) q (get m id)
+      ∙ ap (λ b. not (drops id) && b) (sym (has-in m placed q))
       ∙ by_test (has_pair q old)
       (λ t. ap (λ b. not b && has_pair q old) (same q t))
       (λ f.
@@ -71,17 +70,16 @@ id_of id (p ∷ pairs) e =
     (or_cases (eqb (key_id p.key) id) (has_id id pairs) e)
 
 -- the copies of all pairs in the span have the identifiers of the pairs there alone
-pub ids_inside : (span : Span) (old copies : List Pair) → ((q : Pair) → has_pair q (pairs_inside span old) ≡ true → has_pair q copies ≡ true) → pairs_inside span copies ≡ copies → (q : Pair) → has_pair q old ≡ true
-    → has_id (key_id q.key) copies ≡ in_span span (key_id q.key)
+pub ids_inside : (span : Span) (old copies : List Pair) → pairs_inside span old ≡ copies → (q : Pair) → has_pair q old ≡ true → has_id (key_id q.key) copies ≡ in_span span (key_id q.key)
 unfolding pairs_inside
-ids_inside span old copies all inside q there =
+ids_inside span old copies all q there =
     by_test (in_span span (key_id q.key))
-    (λ t. has_id_of copies q (has_of q copies (all q (has_filtered (lies_in span) q old ∙ (λ i. t i && there i)))) ∙ sym t)
+    (λ t. has_id_of copies q (has_of q copies (ap (has_pair q) (sym all) ∙ has_filtered (lies_in span) q old ∙ (λ i. t i && there i))) ∙ sym t)
     (λ f.
     by_test (has_id (key_id q.key) copies)
     (λ h.
     let r = id_of (key_id q.key) copies h in
-    let lies = (has_filter (lies_in span) copies r.0 (subst (λ (ps : List Pair). Has ps r.0) (sym inside) r.1)).1 in
+    let lies = (has_filter (lies_in span) old r.0 (subst (λ (ps : List Pair). Has ps r.0) (sym all) r.1)).1 in
     absurd (true≢false (sym (ap (in_span span) (sym r.2) ∙ lies) ∙ f)))
     (λ h. h ∙ sym f))
 

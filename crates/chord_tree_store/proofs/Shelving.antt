@@ -1,11 +1,11 @@
 -- What shards of slots have, before and after a change of one shard.
-use Rattle.std.proofs.Common.{◌≡◌, ◌≢◌, ◌≤◌, ℕ, suc, zero, ◌+◌, ◌-◌, length, arith, ◌<◌, Bool, true, false, cond, leb, eqb, List, [], ◌∷◌, ◌++◌, slice_index_or, slice_set, ◌&&◌, Option, None, Some, IsSome, Result, Ok, Err, IsErrAnd, OnErr, refl, sym, ap, ◌∙◌, subst, nat_cmp, is_eq}
+use Rattle.std.proofs.Common.{◌≡◌, ◌≢◌, ◌≤◌, ℕ, suc, zero, ◌+◌, ◌-◌, length, arith, ◌<◌, Bool, true, false, cond, leb, eqb, List, [], ◌∷◌, ◌++◌, slice_index_or, slice_set, ◌&&◌, Option, None, Some, IsSome, Ordering, Less, Equal, Greater, Result, Ok, Err, OnErr, refl, sym, ap, ◌∙◌, subst, nat_cmp, is_eq}
 use Rattle.std.specs.Map.{lookup}
+use Rattle.std.specs.Ordering.{MatchOrdering}
 use Rattle.std.specs.List.Sorted.{IsPartitionPoint}
 use Rattle.std.specs.FinMap.{find, get, from_entries, get-from_entries}
 use Rattle.std.specs.Cmp.{nat_cmp_total}
-use Rattle.std.proofs.lemmas.Cmp.{tied_itself}
-use Rattle.chord_tree_store.proofs.Placing.{same_number}
+use Rattle.std.proofs.lemmas.Cmp.{tied_itself, ranked}
 use Rattle.std.proofs.lemmas.Bool.{true≢false}
 use Rattle.std.proofs.lemmas.List.{get_or_default, get_or-set_same, get_or-set_other, length-set}
 use Rattle.std.proofs.lemmas.Grind.{get_or-set_at}
@@ -13,8 +13,19 @@ use Rattle.chord_map.proofs.Equal.{eqb_same}
 use Rattle.chord_map.proofs.Lists.{by_test}
 use Rattle.chord_tree_store.specs.declared.slot.Slot.{Slot}
 use Rattle.chord_tree_store.specs.declared.shard.Shard.{Shard}
-use Rattle.chord_tree_store.specs.Shelf.{first_of, entries_of, or_find, Has, InPlace, IsHome, LosesIs, OpensIs}
+use Rattle.chord_tree_store.specs.Shelf.{first_of, entries_of, or_find, Has, InPlace, IsHome}
+use Rattle.chord_map.specs.declared.pair.Pair.{Pair}
 use Rattle.chord_store.specs.declared.outcome.Inserted.{Inserted}
+use Rattle.chord_store.specs.Store.{AddIs}
+use Rattle.chord_tree_store.specs.Slot.{pairs_at}
+
+pub same_number : (a b : ℕ) → is_eq (nat_cmp a b) ≡ true → a ≡ b
+same_number a b e = by_rank (nat_cmp a b) (ranked a b (nat_cmp a b) refl) e
+  where
+    by_rank : (r : Ordering) → MatchOrdering r (a < b) (a ≡ b) (b < a) → is_eq r ≡ true → a ≡ b
+    by_rank Less m t = absurd (true≢false (sym t))
+    by_rank Equal m t = m
+    by_rank Greater m t = absurd (true≢false (sym t))
 
 or_none : {X : Type 0} (o : Option X) → or_find o None ≡ o
 or_none (Some x) = refl
@@ -132,13 +143,20 @@ find-changed q (t ∷ rest) zero s within same =
 find-changed q (t ∷ rest) (suc i) s within same =
     find-append q t.slots.entries (entries_of (slice_set rest i s)) ∙ ap (or_find (find nat_cmp q t.slots.entries)) (find-changed q rest i s (omega (arith, within)) same) ∙ sym (find-append q t.slots.entries (entries_of rest))
 
+-- other shards after a change at an identifier, which had o there and now has o'
+pub record Changed (old new : List Shard) (id : ℕ) (o o' : Option Slot) : Type 0 where
+  pub in_place : InPlace new
+  pub before : get (from_entries {R = nat_cmp} (entries_of old)) id ≡ o
+  pub now : get (from_entries {R = nat_cmp} (entries_of new)) id ≡ o'
+  pub others : (q : ℕ) → eqb id q ≡ false → get (from_entries {R = nat_cmp} (entries_of new)) q ≡ get (from_entries {R = nat_cmp} (entries_of old)) q
+
 -- a change at an identifier in its home
 module _ (shards : List Shard) (ok : InPlace shards) (id i : ℕ) (home : IsHome shards id i) (old new : Shard) (at : old ≡ slice_index_or shards i old) (first : new.first ≡ old.first)
     (others : (q : ℕ) → eqb id q ≡ false → lookup (eqb q) new.slots.entries ≡ lookup (eqb q) old.slots.entries) where
   after : List Shard
   after = slice_set shards i new
 
-  pub at_any : (d : Shard) → slice_index_or shards i d ≡ old
+  at_any : (d : Shard) → slice_index_or shards i d ≡ old
   at_any d = get_or_default shards i d old home.0 ∙ sym at
 
   others_find : (q : ℕ) → eqb id q ≡ false → find nat_cmp q new.slots.entries ≡ find nat_cmp q old.slots.entries
@@ -163,7 +181,7 @@ module _ (shards : List Shard) (ok : InPlace shards) (id i : ℕ) (home : IsHome
       (subst IsSome (others_find q f) (subst (λ (x : Shard). Has x q) (get_or-set_at shards i k new d e home.0) has))))
       (λ f. subst (λ (x : Shard). Has x q) (get_or-set_other shards i k new d (λ e. absurd (true≢false (sym (eqb_same k i e) ∙ f)))) has)
 
-  pub still_in_place : InPlace (slice_set shards i new)
+  still_in_place : InPlace (slice_set shards i new)
   still_in_place = record {
     rises = λ j k d le within. subst (λ (n : ℕ). n ≤ first_of (slice_index_or (slice_set shards i new) k d)) (sym (first_same j d)) (subst (λ (n : ℕ). first_of (slice_index_or shards j d) ≤ n) (sym (first_same k d))
         (ok.rises j k d le (subst (λ (n : ℕ). k < n) (length-set shards i new) within)));
@@ -201,28 +219,27 @@ module _ (shards : List Shard) (ok : InPlace shards) (id i : ℕ) (home : IsHome
     ),
   )
 
-  pub here_before : get (from_entries {R = nat_cmp} (entries_of shards)) id ≡ lookup (eqb id) old.slots.entries
+  here_before : get (from_entries {R = nat_cmp} (entries_of shards)) id ≡ lookup (eqb id) old.slots.entries
   here_before = home_get shards ok id i home old at
 
-  pub here_after : get (from_entries {R = nat_cmp} (entries_of (slice_set shards i new))) id ≡ lookup (eqb id) new.slots.entries
+  here_after : get (from_entries {R = nat_cmp} (entries_of (slice_set shards i new))) id ≡ lookup (eqb id) new.slots.entries
   here_after = home_get (slice_set shards i new) still_in_place id i still_home new (sym (get_or-set_same shards i new new home.0))
 
-  pub others_after : (q : ℕ) → eqb id q ≡ false → get (from_entries {R = nat_cmp} (entries_of (slice_set shards i new))) q ≡ get (from_entries {R = nat_cmp} (entries_of shards)) q
+  others_after : (q : ℕ) → eqb id q ≡ false → get (from_entries {R = nat_cmp} (entries_of (slice_set shards i new))) q ≡ get (from_entries {R = nat_cmp} (entries_of shards)) q
   others_after q differ =
       get_of (slice_set shards i new) q
       ∙ find-changed q shards i new home.0 (others_find q differ ∙ sym (ap (λ (x : Shard). find nat_cmp q x.slots.entries) (at_any new)))
       ∙ sym (get_of shards q)
 
+  pub changed : Changed shards (slice_set shards i new) id (lookup (eqb id) old.slots.entries) (lookup (eqb id) new.slots.entries)
+  changed = record { in_place = still_in_place; before = here_before; now = here_after; others = others_after }
+
 -- where no shard begins so low, none has the identifier
 pub no_home : (shards : List Shard) → InPlace shards → (id place : ℕ) → place ≤ length shards → place ≡ 0 → IsBehind shards id place → get (from_entries {R = nat_cmp} (entries_of shards)) id ≡ None
 no_home shards ok id place bound none behind = get_of shards id ∙ empty_shelf shards ok id place bound none behind
 
-pub opens_none : {E : Type 0} (key value : List ℕ) (o o' : Option Slot) (P : E → Type 0) (r : Result (Option Inserted) E) → IsErrAnd r P → o ≡ None → o' ≡ None → OpensIs key value o r o'
-opens_none key value o o' P (Ok did) is e e' = absurd is
-opens_none {E} key value o o' P (Err x) is e e' = subst (λ p. OpensIs {E = E} key value p (Err x) o') (sym e) (subst (λ p. OpensIs {E = E} key value None (Err x) p) (sym e') tt)
-
-pub opens_moved : {E : Type 0} (key value : List ℕ) (o p o' p' : Option Slot) (r : Result (Option Inserted) E) → o ≡ p → o' ≡ p' → OpensIs key value p r p' → OpensIs key value o r o'
-opens_moved {E} key value o p o' p' r e e' is = subst (λ x. OpensIs {E = E} key value x r o') (sym e) (subst (λ x. OpensIs {E = E} key value p r x) (sym e') is)
+pub adds_moved : {E : Type 0} (pair : Pair) (o p o' p' : Option Slot) (r : Result Inserted E) → o ≡ p → o' ≡ p' → AddIs pair (pairs_at p) r (pairs_at p') → AddIs pair (pairs_at o) r (pairs_at o')
+adds_moved pair o p o' p' r e e' is = subst (λ x. AddIs pair (pairs_at x) r (pairs_at o')) (sym e) (subst (λ x. AddIs pair (pairs_at p) r (pairs_at x)) (sym e') is)
 
 pub on_err : {T E P : Type 0} (r : Result T E) → P → OnErr r P
 on_err (Ok v) p = tt
@@ -256,6 +273,3 @@ thinned_in_place shards ok i within old new at first fewer = record {
         (λ t. let e : k ≡ i = grind (arith, t) in
         subst (λ (x : Shard). Has x q) (sym (ap (λ (n : ℕ). slice_index_or shards n d) e ∙ any d)) (fewer q (subst (λ (x : Shard). Has x q) (get_or-set_at shards i k new d e within) has)))
         (λ f. subst (λ (x : Shard). Has x q) (get_or-set_other shards i k new d (λ e. absurd (true≢false (sym (eqb_same k i e) ∙ f)))) has)
-
-pub loses_moved : (key value : List ℕ) (o p o' p' : Option Slot) → o ≡ p → o' ≡ p' → LosesIs key value p p' → LosesIs key value o o'
-loses_moved key value o p o' p' e e' is = subst (λ x. LosesIs key value x o') (sym e) (subst (λ x. LosesIs key value p x) (sym e') is)

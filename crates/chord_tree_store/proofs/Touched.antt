@@ -1,7 +1,7 @@
 -- Shards that a span touches, and what is left after the span's slots were dropped.
 use Rattle.std.proofs.Common.{◌≡◌, ◌≤◌, ◌<◌, ◌+◌, ◌-◌, ◌%◌, ◌^◌, ℕ, zero, suc, Bool, true, false, cond, not, eqb, leb, List, [], ◌∷◌, ◌++◌, length, take, slice_index_or, slice_set, Option, None, Some, IsSome, ⊎_elim, refl, sym, ap, ◌∙◌, subst, arith, inl, inr, nat_cmp, is_eq}
 use Rattle.std.specs.Cmp.{nat_cmp_total}
-use Rattle.std.specs.FinMap.{entries, get, find}
+use Rattle.std.specs.FinMap.{get, find}
 use Rattle.std.specs.List.{IsDistinct}
 use Rattle.std.specs.Map.{keys_of}
 use Rattle.std.proofs.lemmas.Bool.{true≢false}
@@ -10,7 +10,6 @@ use Rattle.std.proofs.lemmas.List.{get_or_default, get_or-set_other, length-set}
 use Rattle.std.proofs.lemmas.Grind.{get_or-set_at}
 use Rattle.chord_ident.specs.Circle.{in_span, walk, Meet}
 use Rattle.chord_ident.specs.declared.span.Span.{Span}
-use Rattle.chord_ident.proofs.Digest.{key_id-below}
 use Rattle.chord_ident.proofs.Spans.{in_span_is}
 use Rattle.chord_ident.proofs.Walks.{walk-goes}
 use Rattle.chord_map.proofs.Equal.{eqb_same, eqb_is, eqb_other}
@@ -21,9 +20,7 @@ use Rattle.chord_tree_store.specs.declared.shard.Shard.{Shard}
 use Rattle.chord_tree_store.specs.Shelf.{first_of, entries_of, or_find, Has, InPlace, slots_of}
 use Rattle.chord_tree_store.specs.Slots.{ArePlaced, entries_inside, entries_outside}
 use Rattle.chord_tree_store.proofs.Gathered.{distinct-append, entries-more}
-use Rattle.chord_tree_store.proofs.Pairing.{slot_at-get}
-use Rattle.chord_tree_store.proofs.Placing.{none_some, same_number}
-use Rattle.chord_tree_store.proofs.Shelving.{find-append, find-changed, find-nowhere, get_of, leb_true, leb_false, thinned_in_place}
+use Rattle.chord_tree_store.proofs.Shelving.{same_number, find-append, find-changed, find-nowhere, get_of, leb_true, leb_false, thinned_in_place}
 
 -- the identifiers of a shard
 
@@ -57,10 +54,10 @@ by_some : {P : Type 0} (o : Option Slot) → IsSome o → ((s : Slot) → o ≡ 
 by_some (Some s) has then = then s refl
 by_some None has then = absurd (true≢false (sym has))
 
-small : (shards : List Shard) → ArePlaced (entries (slots_of shards)) → (i : ℕ) (d : Shard) (q : ℕ) → i < length shards → Has (slice_index_or shards i d) q → q < 2 ^ 128
+small : (shards : List Shard) → ArePlaced (slots_of shards) → (i : ℕ) (d : Shard) (q : ℕ) → i < length shards → Has (slice_index_or shards i d) q → q < 2 ^ 128
 small shards placed i d q within has =
     by_some (get (slots_of shards) q) (subst IsSome (sym (get_of shards q)) (somewhere shards i d q within has))
-    (λ s held. subst (λ (n : ℕ). n < 2 ^ 128) (placed q s (slot_at-get (slots_of shards) q ∙ held)) (key_id-below s.key))
+    (λ s held. (placed q s held).small)
 
 filter_none : (span : Span) (es : List (ℕ × Slot)) → ((e : ℕ × Slot) → lists.Has es e → in_span span e.0 ≡ false) → entries_inside span es ≡ []
 filter_none span [] apart = refl
@@ -75,7 +72,7 @@ reaches first a id end is low high small =
     omega (arith, is, low, high, small, to_id, to_end)
 
 -- a shard whose range the span does not meet has no identifier in it
-pub untouched : (span : Span) (shards : List Shard) → InPlace shards → ArePlaced (entries (slots_of shards)) → (place : ℕ) (d : Shard) → place < length shards → (a end : ℕ)
+pub untouched : (span : Span) (shards : List Shard) → InPlace shards → ArePlaced (slots_of shards) → (place : ℕ) (d : Shard) → place < length shards → (a end : ℕ)
     → a ≡ (first_of (slice_index_or shards place d) + (2 ^ 128 - 1)) % 2 ^ 128 → (place + 1 < length shards → end ≡ first_of (slice_index_or shards (place + 1) d)) → (length shards ≤ place + 1 → end ≡ 2 ^ 128 - 1) → end < 2 ^ 128
     → (Meet a end span.after.number span.upto.number → ⊥) → entries_inside span (slice_index_or shards place d).slots.entries ≡ []
 untouched span shards ok placed place d within a end is next last end_in apart =
@@ -177,8 +174,8 @@ left_start span shards ok = record {
   gone = λ k d q less within inside. absurd (omega (arith, less));
 }
 
-pub left_placed : (span : Span) (old new : List Shard) (place : ℕ) → IsLeft span old new place → ArePlaced (entries (slots_of old)) → ArePlaced (entries (slots_of new))
-left_placed span old new place left placed q s held = placed q s (slot_at-get (slots_of old) q ∙ left.less q s (sym (slot_at-get (slots_of new) q) ∙ held))
+pub left_placed : (span : Span) (old new : List Shard) (place : ℕ) → IsLeft span old new place → ArePlaced (slots_of old) → ArePlaced (slots_of new)
+left_placed span old new place left placed q s held = placed q s (left.less q s held)
 
 pub left_idle : (span : Span) (old new : List Shard) (place : ℕ) → IsLeft span old new place → ((d : Shard) → entries_inside span (slice_index_or new place d).slots.entries ≡ []) → IsLeft span old new (place + 1)
 left_idle span old new place left none = record {
@@ -249,7 +246,7 @@ module _ (span : Span) (old new : List Shard) (place : ℕ) (left : IsLeft span 
       (λ t.
       by_option (find nat_cmp q shard.slots.entries)
       (λ none. sym (same_find q (thin_find q ∙ ap (λ b. cond b None (find nat_cmp q shard.slots.entries)) t ∙ sym none)) ∙ held)
-      (λ x some. absurd (none_some s (sym (dropped q t (subst IsSome (sym some) refl)) ∙ held))))
+      (λ x some. absurd (true≢false (sym (subst IsSome (sym (sym (dropped q t (subst IsSome (sym some) refl)) ∙ held)) refl)))))
       (λ f. sym (same_find q (thin_find q ∙ ap (λ b. cond b None (find nat_cmp q shard.slots.entries)) f)) ∙ held)
 
   pub left_dropped : IsLeft span old (slice_set new place thin) (place + 1)

@@ -1,6 +1,5 @@
 pub mod ValueSet
-pub mod Tree
+pub mod Slot
 pub mod Slots
 pub mod Shelf
 pub mod Copied
-pub mod Placed

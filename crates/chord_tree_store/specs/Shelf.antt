@@ -1,16 +1,12 @@
 -- What shards of slots have. Source: our own.
-use Rattle.std.specs.Prelude.{◌≡◌, ◌<◌, ◌≤◌, ℕ, List, [], ◌∷◌, ◌++◌, ◌+◌, leb, eqb, Bool, bytes_eq, true, false, Option, None, Some, IsSome, Result, Ok, Err, length, slice_index_or}
+use Rattle.std.specs.Prelude.{◌≡◌, ◌<◌, ◌≤◌, ℕ, List, [], ◌∷◌, ◌++◌, ◌+◌, leb, eqb, Bool, true, false, Option, None, Some, IsSome, length, slice_index_or}
 use Rattle.std.specs.List.{list_any}
 use Rattle.std.specs.List.Sorted.{IsNonDecreasingBy, IsPartitionPoint}
 use Rattle.std.specs.Ordering.{nat_cmp}
 use Rattle.std.specs.FinMap.{FinMap, find, from_entries}
 use Rattle.chord_ident.specs.Circle.{key_id}
 use Rattle.chord_map.specs.declared.pair.Pair.{Pair}
-use Rattle.chord_store.specs.declared.outcome.Inserted.{Inserted}
-use Rattle.chord_store.specs.declared.outcome.Inserted.TheVariants.{Added, Present, SetFull}
 use Rattle.chord_tree_store.specs.declared.slot.Slot.{Slot}
-use Rattle.chord_tree_store.specs.Slots.{SlotInsertIs, slot_values}
-use Rattle.chord_tree_store.specs.ValueSet.{Loses}
 use Rattle.chord_tree_store.specs.declared.shard.Shard.{Shard}
 
 abbrev pub first_of : Shard → ℕ
@@ -44,29 +40,6 @@ slots_of shards = from_entries (entries_of shards)
 -- the shard at the place is the last that begins at the identifier or below it
 abbrev pub IsHome : List Shard → ℕ → ℕ → Type 0
 IsHome shards id place = (place < length shards) × IsPartitionPoint (λ s. leb (first_of s) id ≡ true) (λ s. leb (first_of s) id ≡ false) shards (place + 1)
-
--- What an insert does at an identifier: into its slot, or by a new slot; out of memory changes
--- nothing.
-abbrev pub OpensIs : {E : Type 0} → List ℕ → List ℕ → Option Slot → Result (Option Inserted) E → Option Slot → Type 0
-OpensIs key value (Some old) r (Some new) = SlotInsertIs key value old r new
-OpensIs key value (Some old) r None = ⊥
-OpensIs key value None (Ok (Some Added)) (Some new) = (new.key ≡ key) × (new.set.values ≡ value ∷ [])
-OpensIs key value None (Ok (Some Present)) o = ⊥
-OpensIs key value None (Ok (Some SetFull)) o = ⊥
-OpensIs key value None (Ok None) o = ⊥
-OpensIs key value None (Ok (Some Added)) None = ⊥
-OpensIs key value None (Err e) None = Unit {0}
-OpensIs key value None (Err e) (Some new) = ⊥
-
--- What a remove of a value, which is not the only one of its key, does at an identifier: the slot
--- stays, with its key.
-abbrev pub LosesIs : List ℕ → List ℕ → Option Slot → Option Slot → Type 0
-LosesIs key value (Some old) (Some new) =
-    (new.key ≡ old.key) × Loses value (slot_values key (Some old)) (slot_values key (Some new))
-    × ((other : List ℕ) → bytes_eq other key ≡ false → slot_values other (Some new) ≡ slot_values other (Some old))
-LosesIs key value (Some old) None = ⊥
-LosesIs key value None (Some new) = ⊥
-LosesIs key value None None = Unit {0}
 
 -- whether one of the pairs' keys has the identifier
 abbrev pub has_id : ℕ → List Pair → Bool

@@ -1,13 +1,14 @@
 //! The slots of neighbouring identifiers.
-ghost use Rattle.std.specs.Prelude.{◌≡◌, ◌≢◌, ◌≤◌, ℕ, leb, eqb, false, ◌<◌, ◌+◌, if◌then◌else◌, IfOk, OnOk, OnErr, ◌++◌, ◌∷◌, ◌^◌, [], None, length, IsOk};
+ghost use Rattle.std.specs.Prelude.{◌≡◌, ◌↔◌, ◌≤◌, ℕ, leb, eqb, false, ◌<◌, ◌+◌, if◌then◌else◌, IfOk, OnOk, OnErr, ◌++◌, ◌∷◌, ◌^◌, [], None, length, IsOk, IsTrue};
 ghost use Rattle.std.specs.List.{filter};
 ghost use Rattle.std.specs.HashMap as hash;
-ghost use Rattle.chord_tree_store.specs.Slots.{entries_inside, entries_outside, pairs_of_slots, slot_values};
-ghost use Rattle.chord_tree_store.specs.ValueSet.{has_value};
-ghost use Rattle.chord_tree_store.specs.Shelf.{LosesIs, OpensIs, or_find};
+ghost use Rattle.chord_map.specs.Map.{has_pair, remove_pair};
+ghost use Rattle.chord_store.specs.Store.{AddIs};
+ghost use Rattle.chord_tree_store.specs.Slot.{pairs_at};
+ghost use Rattle.chord_tree_store.specs.Slots.{entries_inside, entries_outside, pairs_of_slots};
+ghost use Rattle.chord_tree_store.specs.Shelf.{or_find};
 
 use crate::slot::Slot;
-use crate::value_set::ValueSet;
 use chord_ident::{Id, Span};
 use chord_map::{Bytes, Pair};
 use chord_store::Inserted;
@@ -21,40 +22,53 @@ pub struct Shard {
     pub slots: HashMap<u128, Slot>,
 }
 
-/// Adds the value to the slot of the identifier, or opens one.
+/// Adds the pair to the slot of the identifier, or opens one.
 pub fn place_in(
     slots: &mut HashMap<u128, Slot>,
     alloc: Global,
     id: u128,
     key: &Bytes,
     value: &Bytes,
-) -> Result<Option<Inserted>, AllocError>
-    ensures here { OpensIs key.now value.now (hash.get eqb slots.old id) result (hash.get eqb slots.new id) }
+) -> Result<Inserted, AllocError>
+    ensures here { AddIs (record { key = key.now; value = value.now }) (pairs_at (hash.get eqb slots.old id)) result (pairs_at (hash.get eqb slots.new id)) }
     ensures others { (q : ℕ) → eqb id q ≡ false → hash.get eqb slots.new q ≡ hash.get eqb slots.old q }
 {
     match slots.get_mut(&id) {
-        Some(slot) => slot.insert(key, value),
+        Some(slot) => slot.insert(alloc, key, value),
         None => {
-            let set = ValueSet::one(alloc, value)?;
-            let key = key.try_copy()?;
-            slots.insert(id, Slot { key, set })?;
-            Ok(Some(Inserted::Added))
+            slots.insert(id, Slot::one(alloc, key, value)?)?;
+            Ok(Inserted::Added)
         }
     }
 }
 
-/// Takes the value out of the slot of the identifier, where it is not the only one.
+/// Removes the pair from the slot of the identifier, and answers whether it was there. A slot
+/// with no other pair goes with it.
 pub fn lose_in(slots: &mut HashMap<u128, Slot>, id: u128, key: &Bytes, value: &[u8]) -> bool
-    requires { slot_values key.now (hash.get eqb slots.old id) ≢ value.now ∷ [] }
-    ensures was_there { result ≡ has_value value.now (slot_values key.now (hash.get eqb slots.old id)) }
-    ensures here { LosesIs key.now value.now (hash.get eqb slots.old id) (hash.get eqb slots.new id) }
+    ensures was_there { result ≡ has_pair (record { key = key.now; value = value.now }) (pairs_at (hash.get eqb slots.old id)) }
+    ensures here { pairs_at (hash.get eqb slots.new id) ≡ remove_pair (record { key = key.now; value = value.now }) (pairs_at (hash.get eqb slots.old id)) }
     ensures others { (q : ℕ) → eqb id q ≡ false → hash.get eqb slots.new q ≡ hash.get eqb slots.old q }
 {
+    if is_only(slots, id, key, value) {
+        slots.remove(&id);
+        return true;
+    }
     match slots.get_mut(&id) {
         Some(slot) => slot.remove(key, value),
         None => false,
     }
 }
+
+// Whether the slot of the identifier has this pair alone.
+fn is_only(slots: &HashMap<u128, Slot>, id: u128, key: &Bytes, value: &[u8]) -> bool
+    ensures { IsTrue result ↔ (pairs_at (hash.get eqb slots.now id) ≡ record { key = key.now; value = value.now } ∷ []) }
+{
+    match slots.get(&id) {
+        Some(slot) => slot.has_only(key, value),
+        None => false,
+    }
+}
+
 // The identifiers of the slots from a number on.
 fn upper_keys(
     slots: &HashMap<u128, Slot>,
@@ -109,7 +123,7 @@ pub fn copy_inside(
     span: &Span,
 ) -> Result<(), AllocError>
     ensures copies { OnOk result (copies.new.items ≡ copies.old.items ++ pairs_of_slots (entries_inside span.now slots.now.entries)) }
-    ensures none { entries_inside span.now slots.now.entries ≡ [] → IsOk result }
+    ensures none { pairs_of_slots (entries_inside span.now slots.now.entries) ≡ [] → IsOk result }
 {
     for (id, slot) in slots.iter() {
         if span.contains(Id::new(*id)) {
@@ -127,7 +141,7 @@ pub fn count_inside(slots: &HashMap<u128, Slot>, span: &Span) -> u64
     let mut total = 0;
     for (id, slot) in slots.iter() {
         if span.contains(Id::new(*id)) {
-            total += slot.set.len() as u64;
+            total += slot.len() as u64;
         }
     }
     total

@@ -1,16 +1,18 @@
 //! Slots by identifier, in shards of neighbouring identifiers.
-ghost use Rattle.std.specs.Prelude.{◌≡◌, ◌≢◌, ◌≤◌, ℕ, leb, eqb, true, false, ◌<◌, ◌+◌, ◌-◌, ◌^◌, slice_index_or, length, if◌then◌else◌, IfOk, IsOk, OnErr, ◌∷◌, [], None};
+ghost use Rattle.std.specs.Prelude.{◌≡◌, ◌≤◌, ℕ, leb, eqb, true, false, ◌<◌, ◌+◌, ◌^◌, ◌-◌, slice_index_or, length, if◌then◌else◌, IfOk, IsOk, OnErr, [], None};
 ghost use Rattle.std.specs.Option.{option_copied};
 ghost use Rattle.std.specs.List.Sorted.{IsNonDecreasingBy, IsPartitionPoint};
 ghost use Rattle.std.specs.List.{IsDistinct};
 ghost use Rattle.std.specs.Map.{keys_of};
 ghost use Rattle.std.specs.FinMap as map;
 ghost use Rattle.chord_ident.specs.Circle.{in_span};
-ghost use Rattle.chord_tree_store.specs.Copied.{AreCopies};
+ghost use Rattle.chord_map.specs.Map.{has_pair, remove_pair};
 ghost use Rattle.chord_store.specs.Inside.{pairs_inside};
-ghost use Rattle.chord_tree_store.specs.Slots.{ArePlaced, entries_inside, pairs_in_order, slot_values};
-ghost use Rattle.chord_tree_store.specs.ValueSet.{has_value};
-ghost use Rattle.chord_tree_store.specs.Shelf.{first_of, entries_of, InPlace, IsHome, LosesIs, OpensIs, slots_of};
+ghost use Rattle.chord_store.specs.Store.{AddIs};
+ghost use Rattle.chord_tree_store.specs.Copied.{AreCopies};
+ghost use Rattle.chord_tree_store.specs.Slot.{pairs_at};
+ghost use Rattle.chord_tree_store.specs.Slots.{ArePlaced, entries_inside, pairs_in};
+ghost use Rattle.chord_tree_store.specs.Shelf.{first_of, entries_of, InPlace, IsHome, slots_of};
 
 use crate::shard::{Shard, copy_inside, count_inside, drop_inside, lose_in, move_upper, place_in};
 use crate::slot::Slot;
@@ -68,15 +70,15 @@ impl Shelf {
         }
     }
 
-    /// Adds the value to the slot of the identifier, or opens one.
+    /// Adds the pair to the slot of the identifier, or opens one.
     pub fn place(
         &mut self,
         alloc: Global,
         id: u128,
         key: &Bytes,
         value: &Bytes,
-    ) -> Result<Option<Inserted>, AllocError>
-        ensures here { OpensIs key.now value.now (map.get self.old id) result (map.get self.new id) }
+    ) -> Result<Inserted, AllocError>
+        ensures here { AddIs (record { key = key.now; value = value.now }) (pairs_at (map.get self.old id)) result (pairs_at (map.get self.new id)) }
         ensures others { (q : ℕ) → eqb id q ≡ false → map.get self.new q ≡ map.get self.old q }
     {
         place_among(&mut self.shards, alloc, id, key, value)
@@ -91,11 +93,11 @@ impl Shelf {
         take_among(&mut self.shards, id)
     }
 
-    /// Takes the value out of the slot of the identifier, where it is not the only one.
+    /// Removes the pair from the slot of the identifier, and answers whether it was there. A slot
+    /// with no other pair goes with it.
     pub fn lose(&mut self, id: u128, key: &Bytes, value: &[u8]) -> bool
-        requires { slot_values key.now (map.get self.old id) ≢ value.now ∷ [] }
-        ensures was_there { result ≡ has_value value.now (slot_values key.now (map.get self.old id)) }
-        ensures here { LosesIs key.now value.now (map.get self.old id) (map.get self.new id) }
+        ensures was_there { result ≡ has_pair (record { key = key.now; value = value.now }) (pairs_at (map.get self.old id)) }
+        ensures here { pairs_at (map.get self.new id) ≡ remove_pair (record { key = key.now; value = value.now }) (pairs_at (map.get self.old id)) }
         ensures others { (q : ℕ) → eqb id q ≡ false → map.get self.new q ≡ map.get self.old q }
     {
         lose_among(&mut self.shards, id, key, value)
@@ -111,25 +113,25 @@ impl Shelf {
 
     /// Copies of the pairs in the span, each once, in any order.
     pub fn copy_span(&self, alloc: Global, span: &Span) -> Result<Vec<Pair>, AllocError>
-        requires { ArePlaced (map.entries self.now) }
-        ensures copies { IfOk result (λ copies. AreCopies (pairs_inside span.now (pairs_in_order (map.entries self.now))) copies.items) }
-        ensures none { pairs_inside span.now (pairs_in_order (map.entries self.now)) ≡ [] → IsOk result }
+        requires { ArePlaced self.now }
+        ensures copies { IfOk result (λ copies. AreCopies (pairs_inside span.now (pairs_in self.now)) copies.items) }
+        ensures none { pairs_inside span.now (pairs_in self.now) ≡ [] → IsOk result }
     {
         copy_among(alloc, self.shards.as_slice(), span)
     }
 
     /// The number of pairs in the span.
     pub fn count_span(&self, span: &Span) -> u64
-        requires placed { ArePlaced (map.entries self.now) }
-        requires few { length (pairs_in_order (map.entries self.now)) < 2 ^ 64 }
-        ensures { result ≡ length (pairs_inside span.now (pairs_in_order (map.entries self.now))) }
+        requires placed { ArePlaced self.now }
+        requires few { length (pairs_in self.now) < 2 ^ 64 }
+        ensures { result ≡ length (pairs_inside span.now (pairs_in self.now)) }
     {
         count_among(self.shards.as_slice(), span)
     }
 
     /// Drops the slots in the span.
     pub fn drop_span(&mut self, span: &Span)
-        requires { ArePlaced (map.entries self.old) }
+        requires { ArePlaced self.old }
         ensures { (id : ℕ) → map.get self.new id ≡ (if in_span span.now id then None else map.get self.old id) }
     {
         drop_among(&mut self.shards, span)
@@ -162,17 +164,17 @@ fn home(shards: &mut Vec<Shard>, alloc: Global, id: u128) -> Result<usize, Alloc
     Ok(0)
 }
 
-// Adds the value to the slot of the identifier in its shard, or opens one.
+// Adds the pair to the slot of the identifier in its shard, or opens one.
 fn place_among(
     shards: &mut Vec<Shard>,
     alloc: Global,
     id: u128,
     key: &Bytes,
     value: &Bytes,
-) -> Result<Option<Inserted>, AllocError>
+) -> Result<Inserted, AllocError>
     requires { InPlace shards.old.items }
     ensures in_place { InPlace shards.new.items }
-    ensures here { OpensIs key.now value.now (map.get (slots_of shards.old.items) id) result (map.get (slots_of shards.new.items) id) }
+    ensures here { AddIs (record { key = key.now; value = value.now }) (pairs_at (map.get (slots_of shards.old.items) id)) result (pairs_at (map.get (slots_of shards.new.items) id)) }
     ensures others { (q : ℕ) → eqb id q ≡ false → map.get (slots_of shards.new.items) q ≡ map.get (slots_of shards.old.items) q }
 {
     let at = home(shards, alloc, id)?;
@@ -196,13 +198,12 @@ fn take_among(shards: &mut Vec<Shard>, id: u128) -> Option<Slot>
     shard.slots.remove(&id)
 }
 
-// Takes the value out of the slot of the identifier in its shard, where it is not the only one.
+// Removes the pair from the slot of the identifier in its shard.
 fn lose_among(shards: &mut Vec<Shard>, id: u128, key: &Bytes, value: &[u8]) -> bool
-    requires in_place { InPlace shards.old.items }
-    requires others { slot_values key.now (map.get (slots_of shards.old.items) id) ≢ value.now ∷ [] }
+    requires { InPlace shards.old.items }
     ensures in_place { InPlace shards.new.items }
-    ensures was_there { result ≡ has_value value.now (slot_values key.now (map.get (slots_of shards.old.items) id)) }
-    ensures here { LosesIs key.now value.now (map.get (slots_of shards.old.items) id) (map.get (slots_of shards.new.items) id) }
+    ensures was_there { result ≡ has_pair (record { key = key.now; value = value.now }) (pairs_at (map.get (slots_of shards.old.items) id)) }
+    ensures here { pairs_at (map.get (slots_of shards.new.items) id) ≡ remove_pair (record { key = key.now; value = value.now }) (pairs_at (map.get (slots_of shards.old.items) id)) }
     ensures others { (q : ℕ) → eqb id q ≡ false → map.get (slots_of shards.new.items) q ≡ map.get (slots_of shards.old.items) q }
 {
     let behind = count_up_to(shards.as_slice(), id);
@@ -268,7 +269,7 @@ fn split_among(
 fn is_touched(shards: &[Shard], place: usize, span: &Span) -> bool
     requires place { place < length shards.now }
     requires in_place { InPlace shards.now }
-    requires placed { ArePlaced (map.entries (slots_of shards.now)) }
+    requires placed { ArePlaced (slots_of shards.now) }
     ensures apart { (d : Shard) → result ≡ false → entries_inside span.now (slice_index_or shards.now place d).slots.entries ≡ [] }
     ensures once { (d : Shard) → IsDistinct eqb (keys_of (slice_index_or shards.now place d).slots.entries) }
 {
@@ -284,9 +285,9 @@ fn is_touched(shards: &[Shard], place: usize, span: &Span) -> bool
 // Copies of the pairs in the span.
 fn copy_among(alloc: Global, shards: &[Shard], span: &Span) -> Result<Vec<Pair>, AllocError>
     requires in_place { InPlace shards.now }
-    requires placed { ArePlaced (map.entries (slots_of shards.now)) }
-    ensures copies { IfOk result (λ copies. AreCopies (pairs_inside span.now (pairs_in_order (map.entries (slots_of shards.now)))) copies.items) }
-    ensures none { pairs_inside span.now (pairs_in_order (map.entries (slots_of shards.now))) ≡ [] → IsOk result }
+    requires placed { ArePlaced (slots_of shards.now) }
+    ensures copies { IfOk result (λ copies. AreCopies (pairs_inside span.now (pairs_in (slots_of shards.now))) copies.items) }
+    ensures none { pairs_inside span.now (pairs_in (slots_of shards.now)) ≡ [] → IsOk result }
 {
     let mut copies = Vec::new(alloc);
     for place in 0..shards.len() {
@@ -300,9 +301,9 @@ fn copy_among(alloc: Global, shards: &[Shard], span: &Span) -> Result<Vec<Pair>,
 // The number of pairs in the span.
 fn count_among(shards: &[Shard], span: &Span) -> u64
     requires in_place { InPlace shards.now }
-    requires placed { ArePlaced (map.entries (slots_of shards.now)) }
-    requires few { length (pairs_in_order (map.entries (slots_of shards.now))) < 2 ^ 64 }
-    ensures { result ≡ length (pairs_inside span.now (pairs_in_order (map.entries (slots_of shards.now)))) }
+    requires placed { ArePlaced (slots_of shards.now) }
+    requires few { length (pairs_in (slots_of shards.now)) < 2 ^ 64 }
+    ensures { result ≡ length (pairs_inside span.now (pairs_in (slots_of shards.now))) }
 {
     let mut total = 0;
     for place in 0..shards.len() {
@@ -316,7 +317,7 @@ fn count_among(shards: &[Shard], span: &Span) -> u64
 // Drops the slots in the span.
 fn drop_among(shards: &mut Vec<Shard>, span: &Span)
     requires in_place { InPlace shards.old.items }
-    requires placed { ArePlaced (map.entries (slots_of shards.old.items)) }
+    requires placed { ArePlaced (slots_of shards.old.items) }
     ensures in_place { InPlace shards.new.items }
     ensures outside { (id : ℕ) → map.get (slots_of shards.new.items) id ≡ (if in_span span.now id then None else map.get (slots_of shards.old.items) id) }
 {

@@ -5,7 +5,7 @@ ghost use Rattle.chord_map.specs.declared.pair.Pair.{Pair};
 ghost use Rattle.chord_store.specs.Inside.{pairs_inside};
 ghost use Rattle.chord_store.specs.Store.{HasFew, InsertIs, PutAllIs};
 
-use crate::placed::Placed;
+use crate::slots::Slots;
 use chord_ident::{Id, Span};
 use chord_map::limits::SET_VALUES;
 use chord_map::{Bytes, Pair, Values};
@@ -25,13 +25,13 @@ const SHARD_KEYS: usize = 4096;
 /// span alone. It has no limit of its own.
 #[derive(Drop)]
 pub struct TreeStore {
-    placed: Placed,
+    slots: Slots,
 }
 
 impl Model for TreeStore {
     ghost Value = { List Pair };
 
-    ghost view = { λ store. store.placed };
+    ghost view = { λ store. store.slots };
 }
 
 impl TreeStore {
@@ -46,7 +46,7 @@ impl TreeStore {
         ensures { result ≡ [] }
     {
         TreeStore {
-            placed: Placed::new(alloc, most),
+            slots: Slots::new(alloc, most),
         }
     }
 }
@@ -57,56 +57,51 @@ impl EntryStore for TreeStore {
     ghost limit = { λ _. 2 ^ 64 - 1 };
 
     fn insert(&mut self, id: Id, key: &Bytes, value: &Bytes) -> Result<Inserted, StoreFault> {
-        insert_new(&mut self.placed, id, key, value)
+        insert_new(&mut self.slots, id, key, value)
     }
 
     fn remove(&mut self, id: Id, key: &Bytes, value: &[u8]) -> bool {
-        self.placed.remove(id, key, value)
+        self.slots.remove(id, key, value)
     }
 
     fn take_out(&mut self, span: &Span) {
-        self.placed.take_out(span);
+        self.slots.take_out(span);
     }
 
     fn drop_copied(&mut self, span: &Span, copies: &[Pair]) {
-        self.placed.drop_copied(span, copies);
+        self.slots.drop_copied(span, copies);
     }
 
     fn count(&self) -> u64 {
-        self.placed.len()
+        self.slots.len()
     }
 
     fn values(&self, alloc: Global, id: Id, key: &Bytes) -> Result<Values, AllocError> {
-        self.placed.values(alloc, id, key)
+        self.slots.values(alloc, id, key)
     }
 
     fn copy_span(&self, alloc: Global, span: &Span) -> Result<Vec<Pair>, AllocError> {
-        self.placed.copy_span(alloc, span)
+        self.slots.copy_span(alloc, span)
     }
 
     fn cut_after(&self, span: &Span, n: u64, most: u64) -> Option<Id> {
-        cut_after(&self.placed, *span, n, most)
+        cut_after(&self.slots, *span, n, most)
     }
 
     fn put_all(&mut self, span: &Span, pairs: &[Pair]) -> Result<(), StoreFault> {
-        put_all_new(&mut self.placed, span, pairs)
+        put_all_new(&mut self.slots, span, pairs)
     }
 }
 
 // Adds the value under the key, if it is new and the set has room.
-fn insert_new(
-    placed: &mut Placed,
-    id: Id,
-    key: &Bytes,
-    value: &Bytes,
-) -> Result<Inserted, StoreFault>
+fn insert_new(slots: &mut Slots, id: Id, key: &Bytes, value: &Bytes) -> Result<Inserted, StoreFault>
     requires { id.number ≡ key_id key.now }
-    ensures { InsertIs (record { key = key.now; value = value.now }) placed.old (2 ^ 64 - 1) result placed.new }
+    ensures { InsertIs (record { key = key.now; value = value.now }) slots.old (2 ^ 64 - 1) result slots.new }
 {
-    if placed.len() == LIMIT {
-        return insert_into_full(placed, id, key, value.as_slice());
+    if slots.len() == LIMIT {
+        return insert_into_full(slots, id, key, value.as_slice());
     }
-    match placed.insert(id, key, value) {
+    match slots.insert(id, key, value) {
         Ok(did) => Ok(did),
         Err(_) => Err(StoreFault::Memory),
     }
@@ -114,39 +109,39 @@ fn insert_new(
 
 // The answer to an insert into a full store.
 fn insert_into_full(
-    placed: &Placed,
+    slots: &Slots,
     id: Id,
     key: &Bytes,
     value: &[u8],
 ) -> Result<Inserted, StoreFault>
     requires id { id.number ≡ key_id key.now }
-    requires full { length placed.now ≡ 2 ^ 64 - 1 }
-    ensures { InsertIs (record { key = key.now; value = value.now }) placed.now (2 ^ 64 - 1) result placed.now }
+    requires full { length slots.now ≡ 2 ^ 64 - 1 }
+    ensures { InsertIs (record { key = key.now; value = value.now }) slots.now (2 ^ 64 - 1) result slots.now }
 {
-    if placed.contains(id, key, value) {
+    if slots.contains(id, key, value) {
         return Ok(Inserted::Present);
     }
-    if placed.count_under(id, key) >= SET_VALUES {
+    if slots.count_under(id, key) >= SET_VALUES {
         return Ok(Inserted::SetFull);
     }
     Err(StoreFault::Full)
 }
 
 // Adds all the pairs, which lie in a span where the store has none, or none of them.
-fn put_all_new(placed: &mut Placed, span: &Span, pairs: &[Pair]) -> Result<(), StoreFault>
-    requires vacant { pairs_inside span.now placed.old ≡ [] }
+fn put_all_new(slots: &mut Slots, span: &Span, pairs: &[Pair]) -> Result<(), StoreFault>
+    requires vacant { pairs_inside span.now slots.old ≡ [] }
     requires within { pairs_inside span.now pairs.now ≡ pairs.now }
     requires few { HasFew pairs.now }
-    ensures { PutAllIs pairs.now placed.old (2 ^ 64 - 1) result placed.new }
+    ensures { PutAllIs pairs.now slots.old (2 ^ 64 - 1) result slots.new }
 {
-    if LIMIT - placed.len() < pairs.len() as u64 {
+    if LIMIT - slots.len() < pairs.len() as u64 {
         return Err(StoreFault::Full);
     }
     for pair in pairs {
-        match placed.put(pair) {
+        match slots.put(pair) {
             Ok(()) => {}
             Err(_) => {
-                placed.take_out(span);
+                slots.take_out(span);
                 return Err(StoreFault::Memory);
             }
         }

@@ -1,5 +1,5 @@
 //! The values under one key.
-ghost use Rattle.std.specs.Prelude.{◌≡◌, ◌≢◌, ◌↔◌, IsTrue, ◌<◌, ◌≤◌, ◌∷◌, [], false, length, IfOk, IfErr, OnOk, OnErr};
+ghost use Rattle.std.specs.Prelude.{◌≡◌, ◌≢◌, ◌<◌, ◌≤◌, ◌∷◌, [], false, length, IfOk, IfErr, OnOk, OnErr};
 ghost use Rattle.std.specs.Ordering.{nat_cmp};
 ghost use Rattle.std.specs.Cmp.Lexicographic.{slice_cmp};
 ghost use Rattle.std.specs.List.Sorted.{IsStrictlySortedBy, IsStrictlySortedBy-prop};
@@ -57,16 +57,6 @@ impl ValueSet {
         ensures { result ≡ length self.now.values }
     {
         self.values.as_slice().len()
-    }
-
-    /// Whether the value is the only one.
-    pub fn is_only(&self, value: &[u8]) -> bool
-        ensures { IsTrue result ↔ (self.now.values ≡ value.now ∷ []) }
-    {
-        match self.values.as_slice() {
-            [one] => one.as_slice() == value,
-            _ => false,
-        }
     }
 
     pub fn contains(&self, value: &[u8]) -> bool

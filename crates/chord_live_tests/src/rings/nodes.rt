@@ -60,6 +60,22 @@ retire 2 > Ok(())
 join C 0 1 > IdTaken, back with 0, Ok(Added), Err(Full)
 join e0000000000000000000000000000000 0 1 > 3@e0000000000000000000000000000000
 
+== 2 1 1 1000 3 a slot is used again only once no member names its node
+create A 1 > 0@A
+join C 0 1 > 1@C
+# node 0 hears of node 1, and takes it as its first entry
+tick 1 > Ok(Busy)
+tick 0 > Ok(Busy)
+leave 1 > Ok(())
+retire 1 > Ok(())
+join B 0 1 > NoSlot, back with 0, Ok(Added), Err(Full)
+# it drops its first entry, which is its predecessor too
+tick 0 > Ok(Busy)
+join B 0 1 > NoSlot, back with 0, Ok(Added), Err(Full)
+# it forgets that
+tick 0 > Ok(Busy)
+join B 0 1 > 2@B
+
 == 2 1 1 1000 3 what a node passed on counts after its slot is used again
 create A 1 > 0@A
 join C 0 1 > 1@C

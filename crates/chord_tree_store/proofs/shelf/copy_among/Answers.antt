@@ -1,12 +1,11 @@
 use Rattle.std.proofs.Common.{◌++◌, Vec, Global, slice_index_or, sym, ap, subst, ◌∙◌, List}
-use Rattle.std.specs.FinMap.{entries}
 use Rattle.std.specs.List.{IsDistinct}
 use Rattle.std.proofs.lemmas.Bool.{true≢false}
 use Rattle.chord_map.specs.declared.pair.Pair.{Pair}
 use Rattle.chord_tree_store.specs.Copied.{AreCopies}
 use Rattle.chord_store.specs.Inside.{pairs_inside}
 use Rattle.chord_tree_store.specs.Shelf.{slots_of}
-use Rattle.chord_tree_store.specs.Slots.{entries_inside, pairs_in_order, pairs_of_slots}
+use Rattle.chord_tree_store.specs.Slots.{entries_inside, pairs_in, pairs_of_slots}
 use Rattle.chord_tree_store.proofs.Walking.{before_all, before_idle, before-more, none_before, once_more}
 use Rattle.chord_tree_store.proofs.shelf.copy_among.Goals as goal
 use Rattle.chord_tree_store.proofs.shelf.copy_among.Goals.{then-is_touched+in_ok-copy_inside, else-is_touched}
@@ -43,4 +42,4 @@ loop-place-preserved c =
 
 pub returns-clause-copies : goal.returns-clause-copies
 returns-clause-copies c =
-    subst (AreCopies (pairs_inside c.args.span.now (pairs_in_order (entries (slots_of c.args.shards.now))))) (sym c.loop-place.invariant.copied) (before_all c.args.span.now c.args.shards.now c.requires.placed c.loop-place.place c.loop-place-test.false c.loop-place.invariant.once)
+    subst (AreCopies (pairs_inside c.args.span.now (pairs_in (slots_of c.args.shards.now)))) (sym c.loop-place.invariant.copied) (before_all c.args.span.now c.args.shards.now c.requires.placed c.loop-place.place c.loop-place-test.false c.loop-place.invariant.once)

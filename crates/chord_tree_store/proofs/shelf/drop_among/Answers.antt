@@ -1,5 +1,4 @@
 use Rattle.std.proofs.Common.{◌≡◌, ◌≤◌, ℕ, List, [], Vec, Global, slice_index_or, refl, ◌<◌, ◌+◌, length, sym, ap, subst, ◌∙◌}
-use Rattle.std.specs.FinMap.{entries}
 use Rattle.chord_tree_store.specs.declared.shard.Shard.{Shard}
 use Rattle.chord_tree_store.specs.Shelf.{slots_of}
 use Rattle.chord_tree_store.specs.Slots.{ArePlaced, entries_inside}
@@ -9,7 +8,7 @@ use Rattle.chord_tree_store.proofs.shelf.drop_among.Goals.{then-is_touched, else
 
 pub is_touched-requires-clause-placed : goal.is_touched-requires-clause-placed
 is_touched-requires-clause-placed c =
-    subst (λ (xs : List Shard). ArePlaced (entries (slots_of xs))) (sym c.as_slice.ensures.value)
+    subst (λ (xs : List Shard). ArePlaced (slots_of xs)) (sym c.as_slice.ensures.value)
     (left_placed c.args.span.now c.args.shards.now.items c.loop-place.shards.items c.loop-place.place c.loop-place.invariant c.requires.placed)
 
 pub loop-place-preserved : goal.loop-place-preserved

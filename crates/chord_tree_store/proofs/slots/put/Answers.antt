@@ -1,12 +1,16 @@
-use Rattle.std.proofs.Common.{refl}
-use Rattle.chord_tree_store.proofs.Pairing.{place_placed, place_pairs}
+use Rattle.std.proofs.Common.{sym, subst}
+use Rattle.chord_map.proofs.MapLemmas.{pair_of}
+use Rattle.chord_store.specs.Store.{AddIs}
+use Rattle.chord_tree_store.specs.Slots.{ArePlaced, pairs_in}
+use Rattle.chord_tree_store.proofs.Placing.{adds, adds_placed}
 use Rattle.chord_tree_store.proofs.slots.put.Goals as goal
 
-pub returns-clause-placed : goal.returns-clause-placed
-returns-clause-placed c =
-    place_placed c.args.shelf.now c.place.new.self c.requires.placed c.args.key.now c.args.value.now c.args.id c.requires.id c.place.ensures.others _ c.place.result _ refl refl c.place.ensures.here
-
-pub returns-clause-answer : goal.returns-clause-answer
-returns-clause-answer c =
-    let after = place_placed c.args.shelf.now c.place.new.self c.requires.placed c.args.key.now c.args.value.now c.args.id c.requires.id c.place.ensures.others _ c.place.result _ refl refl c.place.ensures.here in
-    place_pairs c.args.shelf.now c.place.new.self c.requires.placed c.args.key.now c.args.value.now c.args.id c.requires.id c.place.ensures.others _ c.place.result _ refl refl after c.place.ensures.here
+pub returns : goal.returns
+returns c =
+    let place = c.place-done in
+    let placed = adds_placed c.args.shelf.now place.new.self c.requires.placed c.args.id place.ensures.others c.args.key.now c.args.value.now c.requires.id place.result place.ensures.here in
+    record {
+      placed = subst ArePlaced (sym c.split-halved.ensures) placed;
+      answer = subst (λ m. AddIs (pair_of c.args.key.now c.args.value.now) (pairs_in c.args.shelf.now) place.result (pairs_in m)) (sym c.split-halved.ensures)
+          (adds c.args.shelf.now place.new.self c.requires.placed c.args.id place.ensures.others c.args.key.now c.args.value.now c.requires.id place.result placed place.ensures.here);
+    }

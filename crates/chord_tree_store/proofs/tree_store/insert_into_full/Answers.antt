@@ -8,15 +8,15 @@ use Rattle.chord_tree_store.proofs.tree_store.insert_into_full.Goals as goal
 pub returns-then-contains : goal.returns-then-contains
 returns-then-contains c =
     let pair : Pair = record { key = c.args.key.now; value = c.args.value.now } in
-    did_is pair c.args.placed.now c.args.placed.now (2 ^ 64 - 1) Present
-    (due_present pair.key pair.value c.args.placed.now (sym c.contains.ensures ∙ c.if-contains.true)) (λ e. cc) refl
+    did_is pair c.args.slots.now c.args.slots.now (2 ^ 64 - 1) Present
+    (due_present pair.key pair.value c.args.slots.now (sym c.contains.ensures ∙ c.if-contains.true)) (λ e. cc) refl
 
 pub returns-then-count_under-ge-SET_VALUES : goal.returns-then-count_under-ge-SET_VALUES
 returns-then-count_under-ge-SET_VALUES c =
     let pair : Pair = record { key = c.args.key.now; value = c.args.value.now } in
-    did_is pair c.args.placed.now c.args.placed.now (2 ^ 64 - 1) SetFull
-    (due_full pair.key pair.value c.args.placed.now (sym c.contains.ensures ∙ c.if-contains.false) (omega arith)) (λ e. cc) refl
+    did_is pair c.args.slots.now c.args.slots.now (2 ^ 64 - 1) SetFull
+    (due_full pair.key pair.value c.args.slots.now (sym c.contains.ensures ∙ c.if-contains.false) (omega arith)) (λ e. cc) refl
 
 pub returns : goal.returns
 returns c =
-    (due_added c.args.key.now c.args.value.now c.args.placed.now (sym c.contains.ensures ∙ c.if-contains.false) (omega arith), omega arith, refl)
+    (due_added c.args.key.now c.args.value.now c.args.slots.now (sym c.contains.ensures ∙ c.if-contains.false) (omega arith), omega arith, refl)

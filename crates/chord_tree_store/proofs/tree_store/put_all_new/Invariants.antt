@@ -3,4 +3,4 @@ use Rattle.chord_map.specs.Map.{put_all}
 use Rattle.chord_tree_store.proofs.tree_store.put_all_new.Given as goal
 
 abbrev pub invariant-loop-pair : goal.invariant-loop-pair
-invariant-loop-pair l = l.placed ≡ put_all (take l.pair-index l.pairs) l.initial.placed
+invariant-loop-pair l = l.slots ≡ put_all (take l.pair-index l.pairs) l.initial.slots
